@@ -1,0 +1,129 @@
+//! Times the core's digest against the second implementation and OpenSSL.
+//!
+//! All run in this process, on the same buffers, in turn. Each round times a
+//! batch of each; the best and the median batch are printed.
+
+mod openssl;
+
+use std::hint::black_box;
+use std::time::{Duration, Instant};
+
+const ROUNDS: usize = 11;
+
+/// A batch: how many digests of a message of how many bytes.
+struct Batch {
+    digests: usize,
+    bytes: usize,
+}
+
+const BATCHES: [Batch; 2] = [
+    Batch {
+        digests: 1_000,
+        bytes: 64_000,
+    },
+    Batch {
+        digests: 100_000,
+        bytes: 96,
+    },
+];
+
+type Hash = Box<dyn Fn(&[u8], &mut [u8; 48])>;
+
+struct Contender {
+    name: &'static str,
+    hash: Hash,
+}
+
+fn main() {
+    let contenders = contenders();
+    print_heading(&contenders);
+    for batch in &BATCHES {
+        let message: Vec<u8> = (0..batch.bytes).map(|i| (i * 7 + i / 251) as u8).collect();
+        check_agreement(&contenders, &message);
+        print_times(batch, &contenders, &times(batch, &contenders, &message));
+    }
+}
+
+/// The core first, then what it is compared with.
+fn contenders() -> Vec<Contender> {
+    let mut contenders = vec![
+        Contender {
+            name: "ours",
+            hash: Box::new(|message, digest| {
+                host::cabi::sha384_into(message, digest);
+            }),
+        },
+        Contender {
+            name: "reference",
+            hash: Box::new(|message, digest| *digest = reference::sha384::digest(message)),
+        },
+    ];
+    match openssl::sha384() {
+        Some(hash) => contenders.push(Contender {
+            name: "OpenSSL",
+            hash: Box::new(hash),
+        }),
+        None => println!("OpenSSL's libcrypto.so.3 is not on this machine: not compared"),
+    }
+    contenders
+}
+
+/// A time means nothing unless all digests are the same.
+fn check_agreement(contenders: &[Contender], message: &[u8]) {
+    let expected = reference::sha384::digest(message);
+    for contender in contenders {
+        let mut digest = [0; 48];
+        (contender.hash)(message, &mut digest);
+        assert_eq!(digest, expected, "{} differs", contender.name);
+    }
+}
+
+/// The times of each contender's batches, shortest first.
+fn times(batch: &Batch, contenders: &[Contender], message: &[u8]) -> Vec<Vec<Duration>> {
+    let mut times = vec![Vec::new(); contenders.len()];
+    for round in 0..ROUNDS {
+        // Another contender begins each round.
+        for turn in 0..contenders.len() {
+            let who = (round + turn) % contenders.len();
+            times[who].push(time(batch, &contenders[who].hash, message));
+        }
+    }
+    times.iter_mut().for_each(|each| each.sort());
+    times
+}
+
+fn time(batch: &Batch, hash: &Hash, message: &[u8]) -> Duration {
+    let mut digest = [0; 48];
+    let start = Instant::now();
+    for _ in 0..batch.digests {
+        hash(black_box(message), black_box(&mut digest));
+    }
+    start.elapsed()
+}
+
+fn print_heading(contenders: &[Contender]) {
+    println!("Milliseconds of a batch and ratios of times (below 1: ours is faster), best / median of {ROUNDS} rounds.");
+    print!("{:>7} {:>7}", "digests", "bytes");
+    for contender in contenders {
+        print!("  {:>17}", format!("{} ms", contender.name));
+    }
+    for other in &contenders[1..] {
+        print!("  {:>15}", format!("ours/{}", other.name));
+    }
+    println!();
+}
+
+fn print_times(batch: &Batch, contenders: &[Contender], times: &[Vec<Duration>]) {
+    let ms = |time: Duration| time.as_secs_f64() * 1e3;
+    let best: Vec<f64> = times.iter().map(|each| ms(each[0])).collect();
+    let median: Vec<f64> = times.iter().map(|each| ms(each[ROUNDS / 2])).collect();
+    print!("{:>7} {:>7}", batch.digests, batch.bytes);
+    for i in 0..contenders.len() {
+        print!("  {:>17}", format!("{:.2} / {:.2}", best[i], median[i]));
+    }
+    for i in 1..contenders.len() {
+        let ratios = format!("{:.2} / {:.2}", best[0] / best[i], median[0] / median[i]);
+        print!("  {ratios:>15}");
+    }
+    println!();
+}

@@ -1,0 +1,2 @@
+-- The definitions that the contracts of cabi cite.
+pub mod Cabi

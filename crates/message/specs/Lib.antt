@@ -1,0 +1,2 @@
+-- The definitions that the contracts of message cite.
+pub mod Checksum

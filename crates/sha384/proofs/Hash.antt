@@ -1,0 +1,28 @@
+-- The whole blocks of a message and then the blocks that end it are the blocks of the padded message. Assumes nothing.
+use mathlib.Core.Path.{_≡_, refl, sym, ap, ap₂, _∙_}
+use mathlib.Core.List.{List, [], _∷_, _++_, append-assoc}
+use Prim.Native.Nat.{ℕ, _+_, _-_, _*_, _/_, _≤_}
+use native.Mathlib.Omega.{arith}
+use lib.ListN.{length, take, drop, length-append, take-append-drop, length-drop}
+use lib.Seq.{length-take-le}
+use Rattle.sha_block.specs.Blocks.{hashed}
+use Rattle.sha_block.specs.declared.state.State.{State}
+use Rattle.sha_block.proofs.Hashed.{hashed-front, hashed-append}
+use Rattle.sha384.specs.Constants.{constants, initialOf}
+use Rattle.sha384.specs.Sha384.{padding, padded, hashOf}
+
+pub in-two-runs : (m t : List ℕ) (h r : State) → h ≡ hashed constants initialOf m (length m / 128) → t ≡ drop (length m / 128 * 128) m ++ padding (length m)
+    → r ≡ hashed constants h t (length t / 128) → r ≡ hashOf m
+unfolding padded hashOf
+in-two-runs m t h r eh et er =
+    let q = length m / 128 in
+    let front = take (q * 128) m in
+    let lf : length front ≡ q * 128 = length-take-le (q * 128) m (omega arith) in
+    let whole : front ++ drop (q * 128) m ≡ m = take-append-drop (q * 128) m in
+    let first : h ≡ hashed constants initialOf front q =
+    eh ∙ ap (λ (l : List ℕ). hashed constants initialOf l q) (sym whole) ∙ hashed-front constants initialOf front (drop (q * 128) m) q (omega arith) in
+    let split : m ++ padding (length m) ≡ front ++ t =
+    ap (λ (l : List ℕ). l ++ padding (length m)) (sym whole) ∙ append-assoc front (drop (q * 128) m) (padding (length m)) ∙ ap (λ (l : List ℕ). front ++ l) (sym et) in
+    let blocks : length (m ++ padding (length m)) / 128 ≡ q + length t / 128 = ap (λ (l : List ℕ). length l / 128) split ∙ omega (arith, length-append front t) in
+    er ∙ ap (λ (x : State). hashed constants x t (length t / 128)) first
+    ∙ sym (ap₂ (hashed constants initialOf) split blocks ∙ hashed-append constants initialOf front t q (length t / 128) lf)

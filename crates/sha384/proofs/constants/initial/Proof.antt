@@ -1,0 +1,11 @@
+use mathlib.Core.Path.{refl}
+use Rattle.sha384.specs.Constants.{initialOf}
+use Rattle.sha384.proofs.constants.initial.Statement.{statement}
+use Rattle.sha384.proofs.constants.initial.Tie as tie
+
+returns : tie.Need-returns
+unfolding initialOf
+returns c = refl
+
+pub initial-spec : {M : Type 1} → statement M
+initial-spec = tie.close (tie.spec returns)

@@ -1,0 +1,2 @@
+-- The definitions that the contracts of sha384sum cite.
+pub mod Hex

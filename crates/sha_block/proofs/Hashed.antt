@@ -1,0 +1,52 @@
+-- Blocks one after the other: one block more, and the blocks of appended bytes. Assumes nothing.
+use mathlib.Core.Path.{_≡_, refl, sym, ap, ap₂, _∙_}
+use mathlib.Core.List.{List, [], _∷_, _++_}
+use Prim.Native.Nat.{ℕ, zero, suc, _+_, _*_, _≤_, _<_}
+use native.Mathlib.Nat.{add-suc, add-zero}
+use native.Mathlib.Numerals.{add-one}
+use native.Mathlib.Omega.{arith}
+use lib.ListN.{length, getD, List·getD-append}
+use lib.Seq.{getD-append-add}
+use Rattle.sha_block.specs.Blocks.{wordOf, wordAt, wordsAt, blockOf, hashed}
+use Rattle.sha_block.specs.declared.state.State.{State}
+
+-- one block more
+pub hashed-more : (k : List ℕ) (h : State) (p w : List ℕ) (q : ℕ) {s r : State} → s ≡ hashed k h p q → w ≡ wordsAt p (q * 128) 16 → r ≡ blockOf k s w → r ≡ hashed k h p (q + 1)
+hashed-more k h p w q e ew er = rw add-one (er ∙ ap₂ (blockOf k) e ew)
+
+-- words of equal bytes are equal
+same-word : (s t : List ℕ) (i j : ℕ) → ((d : ℕ) → d < 8 → getD s (i + d) 0 ≡ getD t (j + d) 0) → wordAt s i ≡ wordAt t j
+unfolding wordAt
+same-word s t i j e =
+    let z : getD s i 0 ≡ getD t j 0 = ap (λ (x : ℕ). getD s x 0) (sym (add-zero i)) ∙ e 0 (omega arith) ∙ ap (λ (x : ℕ). getD t x 0) (add-zero j) in
+    let e1 = e 1 (omega arith) in
+    let e2 = e 2 (omega arith) in
+    let e3 = e 3 (omega arith) in
+    let e4 = e 4 (omega arith) in
+    let e5 = e 5 (omega arith) in
+    let e6 = e 6 (omega arith) in
+    let e7 = e 7 (omega arith) in
+    cc
+
+same-words : (s t : List ℕ) (i j n : ℕ) → ((d : ℕ) → d < n * 8 → getD s (i + d) 0 ≡ getD t (j + d) 0) → wordsAt s i n ≡ wordsAt t j n
+same-words s t i j zero e = refl
+same-words s t i j (suc n) e =
+    ap₂ (λ (l : List ℕ) (x : ℕ). l ++ (x ∷ [])) (same-words s t i j n (λ d h. e d (omega arith)))
+    (same-word s t (i + n * 8) (j + n * 8)
+    (λ d h. ap (λ (x : ℕ). getD s x 0) (omega arith) ∙ e (n * 8 + d) (omega arith) ∙ ap (λ (x : ℕ). getD t x 0) (omega arith)))
+
+-- the first n blocks of s ++ t are those of s, where s has them all
+pub hashed-front : (k : List ℕ) (h : State) (s t : List ℕ) (n : ℕ) → n * 128 ≤ length s → hashed k h (s ++ t) n ≡ hashed k h s n
+hashed-front k h s t zero l = refl
+hashed-front k h s t (suc n) l =
+    ap₂ (blockOf k) (hashed-front k h s t n (omega arith))
+    (same-words (s ++ t) s (n * 128) (n * 128) 16 (λ d b. List·getD-append s t 0 (n * 128 + d) (omega arith)))
+
+-- the law of appended blocks: m blocks s, and then n blocks of t, from where s left the hash value
+pub hashed-append : (k : List ℕ) (h : State) (s t : List ℕ) (m n : ℕ) → length s ≡ m * 128 → hashed k h (s ++ t) (m + n) ≡ hashed k (hashed k h s m) t n
+hashed-append k h s t m zero l = rw add-zero (hashed-front k h s t m (omega arith))
+hashed-append k h s t m (suc n) l =
+    rw add-suc
+    (ap₂ (blockOf k) (hashed-append k h s t m n l)
+    (same-words (s ++ t) t ((m + n) * 128) (n * 128) 16
+    (λ d b. ap (λ (x : ℕ). getD (s ++ t) x 0) (omega arith) ∙ getD-append-add s t (n * 128 + d) 0)))

@@ -1,0 +1,7 @@
+-- Laws that belong to no one function.
+pub mod Sums
+pub mod Select
+pub mod Loading
+pub mod Turns
+pub mod Ring
+pub mod Hashed

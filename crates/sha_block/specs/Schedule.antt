@@ -1,0 +1,22 @@
+-- FIPS 180-4, section 6.4.2, step 1: the message schedule W_0, W_1, .. of a block. Assumes nothing.
+use Prim.Native.Nat.{ℕ, zero, suc, _+_, _-_, _%_, _^_}
+use mathlib.Core.List.{List, [], _∷_, _++_}
+use lib.ListN.{length, getD}
+use Rattle.sha_block.specs.Words.{sigma0, sigma1}
+
+-- the word at an index of a list
+abbrev pub at : List ℕ → ℕ → ℕ
+at ws t = getD ws t 0
+
+-- W_t = σ1(W_(t-2)) + W_(t-7) + σ0(W_(t-15)) + W_(t-16)
+unfoldable pub nextOf : (w2 w7 w15 w16 : ℕ) → ℕ
+nextOf w2 w7 w15 w16 = (sigma1 w2 + w7 + sigma0 w15 + w16) % 2 ^ 64
+
+-- W_t, where ws is W_0 to W_(t-1)
+unfoldable pub nextWord : List ℕ → ℕ
+nextWord ws = nextOf (at ws (length ws - 2)) (at ws (length ws - 7)) (at ws (length ws - 15)) (at ws (length ws - 16))
+
+-- the block's sixteen words m, which are W_0 to W_15, and the n words after them
+abbrev pub schedule : ℕ → List ℕ → List ℕ
+schedule zero m = m
+schedule (suc n) m = schedule n m ++ (nextWord (schedule n m) ∷ [])

@@ -1,0 +1,36 @@
+//! The mailbox checksum.
+
+/// Zero minus the sum of the code's four bytes and of all `bytes`, modulo 2^32.
+pub fn checksum(code: u32, bytes: &[u8]) -> u32 {
+    let sum = code
+        .to_le_bytes()
+        .iter()
+        .chain(bytes)
+        .fold(0u32, |sum, &byte| sum.wrapping_add(u32::from(byte)));
+    sum.wrapping_neg()
+}
+
+#[cfg(test)]
+mod tests {
+    use super::checksum;
+
+    #[test]
+    fn nothing_sums_to_zero() {
+        assert_eq!(checksum(0, &[]), 0);
+    }
+
+    #[test]
+    fn the_four_code_bytes_count() {
+        assert_eq!(checksum(0x0403_0201, &[]), 10u32.wrapping_neg());
+    }
+
+    #[test]
+    fn each_byte_counts_once() {
+        assert_eq!(checksum(0, &[1, 2, 255]), 258u32.wrapping_neg());
+    }
+
+    #[test]
+    fn code_and_bytes_add_up() {
+        assert_eq!(checksum(0xFF00_0000, &[1]), 256u32.wrapping_neg());
+    }
+}

@@ -1,0 +1,183 @@
+/*
+ * Calls the two functions of include/waggleloft.h from C and compares what
+ * they hand back with known values. Prints a line for each check that failed
+ * and, last, 'N passed, M failed'.
+ */
+#include "waggleloft.h"
+
+#include <stdio.h>
+#include <stdlib.h>
+#include <string.h>
+
+/* Byte i of a buffer before a call. */
+#define FILL(i) ((uint8_t)(0xA5U ^ (unsigned)(i)))
+
+/* The longest buffer that is tried. */
+#define BUFFER_MAX 64
+
+/* Bytes after the buffer that have to stay too. */
+#define GUARD 16
+
+static unsigned passed;
+static unsigned failed;
+
+static void check(int holds, const char *name)
+{
+    if (holds) {
+        passed++;
+    } else {
+        failed++;
+        printf("FAILED: %s\n", name);
+    }
+}
+
+/* Command codes of the mailbox. */
+static const uint32_t STASH = UINT32_C(0x4D454153);
+static const uint32_t DISABLE = UINT32_C(0x4453424C);
+static const uint32_t IDENTITY_KEY = UINT32_C(0x49444549);
+
+/* One byte more than the longest message, all zero. */
+static const uint8_t zeros[WAGGLELOFT_SHA384_LONGEST + 1];
+
+static const char TWO_BLOCKS[] =
+    "abcdefghbcdefghicdefghijdefghijkefghijklfghijklmghijklmn"
+    "hijklmnoijklmnopjklmnopqklmnopqrlmnopqrsmnopqrstnopqrstu";
+
+/* Published digests (FIPS 180-4's examples and NIST's vectors). */
+static const char EMPTY_DIGEST[] =
+    "38b060a751ac96384cd9327eb1b1e36a21fdb71114be0743"
+    "4c0cc7bf63f6e1da274edebfe76f65fbd51ad2f14898b95b";
+static const char ABC_DIGEST[] =
+    "cb00753f45a35e8bb5a03d699ac65007272c32ab0eded163"
+    "1a8b605a43ff5bed8086072ba1e7cc2358baeca134c825a7";
+static const char TWO_BLOCKS_DIGEST[] =
+    "09330c33f71147e83d192fc782cd1b4753111b173b3b05d2"
+    "2fa08086e3b0f712fcc7c71a557e2db966c3e9fa91746039";
+
+/* The digest of 65,535 zero bytes, as GNU sha384sum prints it. */
+static const char LONGEST_DIGEST[] =
+    "fb84751f2668518c8702d240049653ec4ca9eeed10228d32"
+    "05b03fd104caf0e11e158d8bf2d260d390b6ded2fa190b72";
+
+struct call {
+    uint32_t number;
+    uint8_t buffer[BUFFER_MAX + GUARD];
+};
+
+/* A call with a buffer of buffer_len bytes that held FILL. */
+static struct call digest(const void *message, size_t message_len,
+                          size_t buffer_len)
+{
+    struct call call;
+    for (size_t i = 0; i < sizeof call.buffer; i++) {
+        call.buffer[i] = FILL(i);
+    }
+    call.number =
+        waggleloft_sha384(message, message_len, call.buffer, buffer_len);
+    return call;
+}
+
+/* Whether the buffer holds FILL from byte `from` on. */
+static int untouched_from(const struct call *call, size_t from)
+{
+    for (size_t i = from; i < sizeof call->buffer; i++) {
+        if (call->buffer[i] != FILL(i)) {
+            return 0;
+        }
+    }
+    return 1;
+}
+
+/* Whether the buffer begins with the digest given in hexadecimal digits. */
+static int begins_with(const struct call *call, const char *digits)
+{
+    char found[2 * WAGGLELOFT_SHA384_BYTES + 1];
+    for (size_t i = 0; i < WAGGLELOFT_SHA384_BYTES; i++) {
+        (void)snprintf(found + 2 * i, 3, "%02x", (unsigned)call->buffer[i]);
+    }
+    return strcmp(found, digits) == 0;
+}
+
+/* Checks a call that hands back the digest. */
+static void written(const char *name, const void *message, size_t message_len,
+                    size_t buffer_len, const char *digits)
+{
+    struct call call = digest(message, message_len, buffer_len);
+    check(call.number == WAGGLELOFT_OK && begins_with(&call, digits) &&
+              untouched_from(&call, WAGGLELOFT_SHA384_BYTES),
+          name);
+}
+
+/* Checks a call that is refused with that number. */
+static void refused(const char *name, size_t message_len, size_t buffer_len,
+                    uint32_t number)
+{
+    struct call call = digest(zeros, message_len, buffer_len);
+    check(call.number == number && untouched_from(&call, 0), name);
+}
+
+static void check_digests(void)
+{
+    written("digest of the empty message", "", 0, 48, EMPTY_DIGEST);
+    written("digest of abc", "abc", 3, 48, ABC_DIGEST);
+    written("digest of the message of 112 bytes", TWO_BLOCKS,
+            strlen(TWO_BLOCKS), 48, TWO_BLOCKS_DIGEST);
+    written("digest of the longest message", zeros, WAGGLELOFT_SHA384_LONGEST,
+            48, LONGEST_DIGEST);
+}
+
+static void check_buffers(void)
+{
+    refused("buffer of 0 bytes", 3, 0, WAGGLELOFT_SHORT_BUFFER);
+    refused("buffer of 47 bytes", 3, 47, WAGGLELOFT_SHORT_BUFFER);
+    written("buffer of 49 bytes", "abc", 3, 49, ABC_DIGEST);
+    written("buffer of 64 bytes", "abc", 3, 64, ABC_DIGEST);
+}
+
+static void check_refusals(void)
+{
+    const size_t too_long = WAGGLELOFT_SHA384_LONGEST + 1;
+    refused("message too long", too_long, 48, WAGGLELOFT_LONG_MESSAGE);
+    refused("message too long, buffer of 64 bytes", too_long, 64,
+            WAGGLELOFT_LONG_MESSAGE);
+    refused("message too long, buffer of 47 bytes", too_long, 47,
+            WAGGLELOFT_LONG_MESSAGE);
+    refused("message too long, buffer of 0 bytes", too_long, 0,
+            WAGGLELOFT_LONG_MESSAGE);
+}
+
+static void check_names(void)
+{
+    check(WAGGLELOFT_OK == 0, "success is 0");
+    check(WAGGLELOFT_SHORT_BUFFER == 8, "a short buffer is 8");
+    check(WAGGLELOFT_LONG_MESSAGE == 10, "a long message is 10");
+    check(WAGGLELOFT_SHA384_BYTES == 48, "a digest has 48 bytes");
+    check(WAGGLELOFT_SHA384_LONGEST == 65535,
+          "the longest message has 65,535 bytes");
+}
+
+static void check_checksums(void)
+{
+    static const uint8_t ff[2] = {0xFF, 0xFF};
+    check(waggleloft_checksum(DISABLE, zeros, 0) == UINT32_C(0xFFFFFEDB),
+          "checksum of disable attestation");
+    check(waggleloft_checksum(IDENTITY_KEY, zeros, 0) == UINT32_C(0xFFFFFEE5),
+          "checksum of identity key");
+    check(waggleloft_checksum(STASH, zeros, 56) == UINT32_C(0xFFFFFEDA),
+          "checksum of stash with 56 zero bytes");
+    check(waggleloft_checksum(0, zeros, 0) == 0,
+          "checksum of code 0 without bytes");
+    check(waggleloft_checksum(1, ff, sizeof ff) == UINT32_C(0xFFFFFE01),
+          "checksum of code 1 and two bytes");
+}
+
+int main(void)
+{
+    check_names();
+    check_digests();
+    check_buffers();
+    check_refusals();
+    check_checksums();
+    printf("%u passed, %u failed\n", passed, failed);
+    return failed == 0 ? EXIT_SUCCESS : EXIT_FAILURE;
+}

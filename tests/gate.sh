@@ -1,0 +1,76 @@
+#!/usr/bin/env bash
+# Tests of the gate's own pieces: each check that can pass is shown to fail too.
+# The last line is 'N passed, M failed'; exit status 1 if one failed.
+set -euo pipefail
+cd "$(dirname "${BASH_SOURCE[0]}")/.."
+. tests/tally.sh
+. tests/expect.sh
+
+work=$(mktemp -d)
+trap 'rm -rf "$work"' EXIT
+
+# ---- the listing check, on a copy of the tree's skeleton
+
+skeleton() {
+    local folder
+    rm -rf "$work/tree"
+    mkdir -p "$work/tree/crates"
+    cp crates.txt "$work/tree/"
+    for folder in crates/*/; do mkdir "$work/tree/$folder"; done
+}
+
+# Prints what the check says of the skeleton, and its exit status.
+listing() {
+    local status=0
+    tests/listed.sh "$work/tree" 2>&1 || status=$?
+    echo "status $status"
+}
+
+skeleton
+expect 'the tree itself is listed' 'status 0' "$(listing)"
+
+mkdir "$work/tree/crates/stowaway"
+expect 'an unlisted crate folder is refused' \
+    $'crates/stowaway is not listed in crates.txt\nstatus 1' "$(listing)"
+
+echo '# stowaway:' >>"$work/tree/crates.txt"
+expect 'a crate listed in a comment is refused' \
+    $'crates/stowaway is not listed in crates.txt\nstatus 1' "$(listing)"
+
+echo 'stowaway: # no dependency' >>"$work/tree/crates.txt"
+expect 'the same folder is taken once it is listed' 'status 0' "$(listing)"
+
+rmdir "$work/tree/crates/stowaway"
+expect 'a listed crate without its folder is refused' \
+    $'crates.txt lists stowaway and there is no crates/stowaway\nstatus 1' "$(listing)"
+
+skeleton
+rm "$work/tree/crates.txt"
+expect 'a tree without crates.txt is refused' refused \
+    "$(tests/listed.sh "$work/tree" >"$work/log" 2>&1 && echo taken || echo refused)"
+
+# ---- the counts of a step
+
+# Prints the counts of a step with that output and status.
+counted() { # KIND STATUS TEXT
+    printf '%b' "$3" >"$work/log"
+    counts "$1" "$2" "$work/log"
+}
+
+expect 'counts of a last line' '7 0' "$(counted line 0 'x\n7 passed, 0 failed\n')"
+expect 'failures of a last line' '7 2' "$(counted line 1 '7 passed, 2 failed\n')"
+expect 'failures count whatever the status' '7 2' "$(counted line 0 '7 passed, 2 failed\n')"
+expect 'a non-zero status fails a fine line' '7 1' "$(counted line 2 '7 passed, 0 failed\n')"
+expect 'a missing last line fails' '0 1' "$(counted line 0 '7 passed, 0 failed\nmore\n')"
+expect 'no output fails' '0 1' "$(counted line 0 '')"
+expect 'nothing run fails' '0 1' "$(counted line 0 '0 passed, 0 failed\n')"
+two='test result: FAILED. 3 passed; 1 failed; 0 ignored\ntest result: FAILED. 4 passed; 2 failed; 0 ignored\n'
+expect 'cargo lines add up' '7 3' "$(counted cargo 101 "$two")"
+expect 'a non-zero status fails fine cargo lines' '3 1' \
+    "$(counted cargo 101 'test result: ok. 3 passed; 0 failed; 0 ignored\n')"
+expect 'cargo without a result fails' '0 1' "$(counted cargo 101 'error: no\n')"
+expect 'cargo without a test fails' '0 1' "$(counted cargo 0 'test result: ok. 0 passed; 0 failed; 0 ignored\n')"
+expect 'a plain step that passes counts nothing' '0 0' "$(counted plain 0 '9 passed, 9 failed\n')"
+expect 'a plain step that fails counts once' '0 1' "$(counted plain 3 '')"
+
+conclude

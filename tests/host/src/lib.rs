@@ -1,0 +1,5 @@
+//! What the tests and the benchmark use of the core, from outside.
+
+pub mod cabi;
+pub mod random;
+pub mod shell;
