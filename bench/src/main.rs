@@ -1,14 +1,17 @@
 //! Times the core's digest against the second implementation and OpenSSL.
 //!
-//! All run in this process, on the same buffers, in turn. Each round times a
-//! batch of each; the best and the median batch are printed.
+//! All run in this process, on the same buffers, and take turns: a batch is
+//! made in many short turns, so that a machine that slows down for a while slows
+//! all alike. Printed are the time of the whole batch and the best turn's time,
+//! scaled to a batch.
 
 mod openssl;
 
 use std::hint::black_box;
 use std::time::{Duration, Instant};
 
-const ROUNDS: usize = 11;
+/// The turns that each takes to make its batch.
+const TURNS: usize = 100;
 
 /// A batch: how many digests of a message of how many bytes.
 struct Batch {
@@ -78,31 +81,30 @@ fn check_agreement(contenders: &[Contender], message: &[u8]) {
     }
 }
 
-/// The times of each contender's batches, shortest first.
+/// The times of each contender's turns.
 fn times(batch: &Batch, contenders: &[Contender], message: &[u8]) -> Vec<Vec<Duration>> {
     let mut times = vec![Vec::new(); contenders.len()];
-    for round in 0..ROUNDS {
-        // Another contender begins each round.
-        for turn in 0..contenders.len() {
-            let who = (round + turn) % contenders.len();
-            times[who].push(time(batch, &contenders[who].hash, message));
+    for turn in 0..TURNS {
+        // Another contender begins each turn.
+        for place in 0..contenders.len() {
+            let who = (turn + place) % contenders.len();
+            times[who].push(time(batch.digests / TURNS, &contenders[who].hash, message));
         }
     }
-    times.iter_mut().for_each(|each| each.sort());
     times
 }
 
-fn time(batch: &Batch, hash: &Hash, message: &[u8]) -> Duration {
+fn time(digests: usize, hash: &Hash, message: &[u8]) -> Duration {
     let mut digest = [0; 48];
     let start = Instant::now();
-    for _ in 0..batch.digests {
+    for _ in 0..digests {
         hash(black_box(message), black_box(&mut digest));
     }
     start.elapsed()
 }
 
 fn print_heading(contenders: &[Contender]) {
-    println!("Milliseconds of a batch and ratios of times (below 1: ours is faster), best / median of {ROUNDS} rounds.");
+    println!("Milliseconds of a batch and ratios of times (below 1: ours is faster), whole batch / best of {TURNS} turns.");
     print!("{:>7} {:>7}", "digests", "bytes");
     for contender in contenders {
         print!("  {:>17}", format!("{} ms", contender.name));
@@ -115,14 +117,17 @@ fn print_heading(contenders: &[Contender]) {
 
 fn print_times(batch: &Batch, contenders: &[Contender], times: &[Vec<Duration>]) {
     let ms = |time: Duration| time.as_secs_f64() * 1e3;
-    let best: Vec<f64> = times.iter().map(|each| ms(each[0])).collect();
-    let median: Vec<f64> = times.iter().map(|each| ms(each[ROUNDS / 2])).collect();
+    let whole: Vec<f64> = times.iter().map(|each| ms(each.iter().sum())).collect();
+    let best: Vec<f64> = times
+        .iter()
+        .map(|each| ms(*each.iter().min().expect("a turn")) * TURNS as f64)
+        .collect();
     print!("{:>7} {:>7}", batch.digests, batch.bytes);
     for i in 0..contenders.len() {
-        print!("  {:>17}", format!("{:.2} / {:.2}", best[i], median[i]));
+        print!("  {:>17}", format!("{:.2} / {:.2}", whole[i], best[i]));
     }
     for i in 1..contenders.len() {
-        let ratios = format!("{:.2} / {:.2}", best[0] / best[i], median[0] / median[i]);
+        let ratios = format!("{:.2} / {:.2}", whole[0] / whole[i], best[0] / best[i]);
         print!("  {ratios:>15}");
     }
     println!();
