@@ -1,0 +1,4 @@
+-- Where each field of the memory image stands, byte strings as words, and numbers below a bound.
+pub mod Sizes
+pub mod Words
+pub mod Below

@@ -1,0 +1,104 @@
+-- The memory image (document 01, "What the unit holds"). A change of the number of nodes or of the words of a node is a change of
+-- `nodeCount` or `nodeWords` here. Assumes nothing.
+use Prim.Native.Nat.{ℕ, _+_, _*_}
+
+-- "24 measurement nodes, 34 words each"
+abbrev pub nodeCount : ℕ
+nodeCount = 24
+
+abbrev pub nodeWords : ℕ
+nodeWords = 34
+
+-- "PCR0 to PCR31, 12 words each": a register holds 48 bytes
+abbrev pub registerCount : ℕ
+registerCount = 32
+
+abbrev pub registerWords : ℕ
+registerWords = 12
+
+-- word 0: flow mark
+abbrev pub markAt : ℕ
+markAt = 0
+
+-- word 1: attestation
+abbrev pub attestationAt : ℕ
+attestationAt = 1
+
+-- words 4 to 15: device secret (CDI), 48 bytes
+abbrev pub secretAt : ℕ
+secretAt = 4
+
+-- words 16 to 399: the registers
+abbrev pub registersAt : ℕ
+registersAt = 16
+
+-- words 400 on: the nodes
+abbrev pub nodesAt : ℕ
+nodesAt = registersAt + registerCount * registerWords
+
+-- 1,216 words
+abbrev pub imageWords : ℕ
+imageWords = nodesAt + nodeCount * nodeWords
+
+-- the first word of PCRi
+abbrev pub registerAt : ℕ → ℕ
+registerAt i = registersAt + registerWords * i
+
+-- the first word of node i
+abbrev pub nodeAt : ℕ → ℕ
+nodeAt i = nodesAt + nodeWords * i
+
+-- "Register roles": PCR2 current, PCR3 journey, PCR31 stashed measurements
+abbrev pub currentRegister : ℕ
+currentRegister = 2
+
+abbrev pub journeyRegister : ℕ
+journeyRegister = 3
+
+abbrev pub stashRegister : ℕ
+stashRegister = 31
+
+-- "Node words (offsets within the node)": 1 tag; 2 to 6 context handle; 7 flags; 8 to 19 current; 20 to 31 cumulative; 32 type; 33 locality
+abbrev pub tagAt : ℕ
+tagAt = 1
+
+abbrev pub handleAt : ℕ
+handleAt = 2
+
+abbrev pub handleWords : ℕ
+handleWords = 5
+
+abbrev pub flagsAt : ℕ
+flagsAt = 7
+
+abbrev pub currentAt : ℕ
+currentAt = 8
+
+abbrev pub cumulativeAt : ℕ
+cumulativeAt = 20
+
+abbrev pub typeAt : ℕ
+typeAt = 32
+
+abbrev pub localityAt : ℕ
+localityAt = 33
+
+-- the parent's index that marks the root
+abbrev pub rootMark : ℕ
+rootMark = 0xFF
+
+-- the word of which five make the handle "retired"; five zero words make the default handle
+abbrev pub retiredWord : ℕ
+retiredWord = 0xFFFFFFFF
+
+-- flags: bit 31, "internal"
+abbrev pub internalFlag : ℕ
+internalFlag = 0x80000000
+
+-- type of the root: "RTJM"
+abbrev pub rootType : ℕ
+rootType = 0x4D4A5452
+
+-- the longest answer in the table of commands
+abbrev pub answerMax : ℕ
+answerMax = 104

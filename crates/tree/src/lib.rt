@@ -1,0 +1,2 @@
+// The measurement nodes of an image.
+pub const PLACEHOLDER: usize = 0;

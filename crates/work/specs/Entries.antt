@@ -1,0 +1,70 @@
+-- What the entries over a work answer: stores left, one store, the answer (document 01, "Work, one word at a time" and "Numbers handed back").
+-- Each is defined for every work value and every image. Assumes nothing.
+use Prim.Native.Nat.{ℕ, _+_, _-_}
+use mathlib.Core.Bool.{Bool, cond, not, _&&_}
+use mathlib.Core.List.{List}
+use lib.ListN.{length, set}
+use lib.Dec.{leb, ltb, eqb}
+use lib.Seq.{paste}
+use Rattle.layout.specs.Sizes.{imageWords, answerMax}
+use Rattle.work.specs.Table.{numberOf, putOf, indexOk}
+use Rattle.work.specs.declared.Work.{Work}
+use Rattle.work.specs.declared.Put.{Put}
+use Rattle.work.specs.declared.Stored.{Stored}
+use Rattle.work.specs.declared.Answered.{Answered}
+
+-- "A work with a position past its number, an index beyond the nodes or an answer longer than the longest in the table" is not well shaped
+unfoldable pub wellShaped : Work → Bool
+wellShaped w = indexOk (w .kind) && (leb (w .«answer_len») answerMax && leb (w .position) (numberOf (w .kind)))
+
+-- "The reported stores left are the number below minus those made"; a work that is not well shaped "reports 0 left"
+unfoldable pub leftOf : Work → ℕ
+leftOf w = cond (wellShaped w) (numberOf (w .kind) - w .position) 0
+
+-- "hands it back": the same work with its position one store on
+abbrev pub moved : Work → Work
+moved w =
+    record {
+      kind = w .kind;
+      position = w .position + 1;
+      register = w .register;
+      journey = w .journey;
+      node = w .node;
+      secret = w .secret;
+      answer = w .answer;
+      «answer_len» = w .«answer_len»;
+    }
+
+-- "store: 1; 9 no store left"; success is 0
+unfoldable pub storeNumber : Work → List ℕ → ℕ
+storeNumber w image = cond (eqb (length image) imageWords) (cond (ltb 0 (leftOf w)) 0 9) 1
+
+-- the number, and the work: one store on, or unchanged
+unfoldable pub storeResult : Work → List ℕ → Stored
+storeResult w image =
+    cond (eqb (storeNumber w image) 0)
+    (record { number = 0; work = moved w })
+    (record { number = storeNumber w image; work = w })
+
+-- "One call makes exactly one store: one word takes one value ..; every other word stays"; refused, every word stays
+unfoldable pub storeImage : Work → List ℕ → List ℕ
+storeImage w image = cond (eqb (storeNumber w image) 0) (set image (putOf w .address) (putOf w .value)) image
+
+-- "The answer may be taken only after the last store"
+unfoldable pub finished : Work → Bool
+finished w = wellShaped w && eqb (w .position) (numberOf (w .kind))
+
+-- "answer: 7 stores left; 8 buffer shorter than the answer", for a buffer of n bytes; success is 0
+unfoldable pub answerNumber : Work → ℕ → ℕ
+answerNumber w n = cond (not (finished w)) 7 (cond (ltb n (w .«answer_len»)) 8 0)
+
+unfoldable pub answerResult : Work → List ℕ → Answered
+answerResult w buffer =
+    record {
+      number = answerNumber w (length buffer);
+      written = cond (eqb (answerNumber w (length buffer)) 0) (w .«answer_len») 0;
+    }
+
+-- the buffer afterwards: the answer, and "bytes past the answer stay"; refused, every byte stays
+unfoldable pub answerBuffer : Work → List ℕ → List ℕ
+answerBuffer w buffer = cond (eqb (answerNumber w (length buffer)) 0) (paste buffer 0 (w .answer) (w .«answer_len»)) buffer

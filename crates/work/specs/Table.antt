@@ -1,0 +1,117 @@
+-- The store table (document 01, "Work, one word at a time"): for each kind of work, runs of stores in order. Assumes nothing.
+use Prim.Native.Nat.{ℕ, _+_, _-_, _*_}
+use mathlib.Core.Bool.{Bool, true, cond, _&&_}
+use mathlib.Core.List.{List, [], _∷_}
+use lib.ListN.{getD}
+use lib.Dec.{ltb}
+use Rattle.layout.specs.Sizes.{nodeCount, nodeWords, registerCount, registerWords, markAt, attestationAt, secretAt, registerAt, nodeAt, currentRegister, journeyRegister, stashRegister, handleAt, handleWords, currentAt, cumulativeAt, retiredWord}
+use Rattle.work.specs.declared.Kind.{Kind}
+use Rattle.work.specs.declared.Kind.the-variants.{Nothing, Disabling, Stash, Update, ColdBoot}
+use Rattle.work.specs.declared.StashAt.{StashAt}
+use Rattle.work.specs.declared.Work.{Work}
+use Rattle.work.specs.declared.Put.{Put}
+
+abbrev pub put : ℕ → ℕ → Put
+put a v = record { address = a; value = v }
+
+-- a run of stores: how many, and store i of them
+pub record Run : Type 0 where
+  pub count : ℕ
+  pub store : ℕ → Put
+
+-- one word
+abbrev pub one : ℕ → ℕ → Run
+one a v = record { count = 1; store = λ i. put a v }
+
+-- one value, n times from word a on
+abbrev pub fill : ℕ → ℕ → ℕ → Run
+fill a n v = record { count = n; store = λ i. put (a + i) v }
+
+-- the first n words of a list, from word a on ("each field's words rising")
+abbrev pub copy : ℕ → ℕ → List ℕ → Run
+copy a n l = record { count = n; store = λ i. put (a + i) (getD l i 0) }
+
+-- n words of a list from its word o on
+abbrev pub copyFrom : ℕ → ℕ → List ℕ → ℕ → Run
+copyFrom a n l o = record { count = n; store = λ i. put (a + i) (getD l (o + i) 0) }
+
+-- "stash: mark 0; PCR31; the new node; the old holder's five handle words; mark 1"
+abbrev pub stashRuns : StashAt → List ℕ → List ℕ → List Run
+stashRuns s register node =
+    one markAt 0
+    ∷ copy (registerAt stashRegister) registerWords register
+    ∷ copy (nodeAt (s .node)) nodeWords node
+    ∷ fill (nodeAt (s .holder) + handleAt) handleWords retiredWord
+    ∷ one markAt 1
+    ∷ []
+
+-- "disabling: mark 0; word 1 zero; secret zero; mark 1"
+abbrev pub disablingRuns : List Run
+disablingRuns = one markAt 0 ∷ one attestationAt 0 ∷ fill secretAt registerWords 0 ∷ one markAt 1 ∷ []
+
+-- "update: mark 0; PCR2; PCR3; secret; root's current; root's cumulative; mark 1"
+abbrev pub updateRuns : ℕ → List ℕ → List ℕ → List ℕ → List ℕ → List Run
+updateRuns root register journey node secret =
+    one markAt 0
+    ∷ copy (registerAt currentRegister) registerWords register
+    ∷ copy (registerAt journeyRegister) registerWords journey
+    ∷ copy secretAt registerWords secret
+    ∷ copyFrom (nodeAt root + currentAt) registerWords node currentAt
+    ∷ copyFrom (nodeAt root + cumulativeAt) registerWords node cumulativeAt
+    ∷ one markAt 1
+    ∷ []
+
+-- "cold boot: mark 0; words 1 to 1215; mark 1": word 1 is 1, words 2 and 3 zero, the secret, PCR2 and PCR3 among zero registers, the root, zero nodes
+abbrev pub coldRuns : List ℕ → List ℕ → List ℕ → List ℕ → List Run
+coldRuns register journey node secret =
+    one markAt 0
+    ∷ one attestationAt 1
+    ∷ fill 2 2 0
+    ∷ copy secretAt registerWords secret
+    ∷ fill (registerAt 0) (currentRegister * registerWords) 0
+    ∷ copy (registerAt currentRegister) registerWords register
+    ∷ copy (registerAt journeyRegister) registerWords journey
+    ∷ fill (registerAt (journeyRegister + 1)) ((registerCount - (journeyRegister + 1)) * registerWords) 0
+    ∷ copy (nodeAt 0) nodeWords node
+    ∷ fill (nodeAt 1) ((nodeCount - 1) * nodeWords) 0
+    ∷ one markAt 1
+    ∷ []
+
+-- the row of a kind, with the prepared words
+abbrev pub runsFor : Kind → List ℕ → List ℕ → List ℕ → List ℕ → List Run
+runsFor Nothing register journey node secret = []
+runsFor Disabling register journey node secret = disablingRuns
+runsFor (Stash s) register journey node secret = stashRuns s register node
+runsFor (Update root) register journey node secret = updateRuns root register journey node secret
+runsFor ColdBoot register journey node secret = coldRuns register journey node secret
+
+-- ---- number, address and value
+
+abbrev pub total : List Run → ℕ
+total [] = 0
+total (r ∷ rs) = r .count + total rs
+
+-- store k of the runs, where the first run's first store has the number n
+abbrev pub putFrom : ℕ → List Run → ℕ → Put
+putFrom n [] k = put 0 0
+putFrom n (r ∷ rs) k = cond (ltb k (n + r .count)) (r .store (k - n)) (putFrom (n + r .count) rs k)
+
+-- the number of stores of a kind of work: 53, 15, 62, 1,217, or 0 with nothing to store
+unfoldable pub numberOf : Kind → ℕ
+numberOf k = total (runsFor k [] [] [] [])
+
+unfoldable pub runsOf : Work → List Run
+runsOf w = runsFor (w .kind) (w .register) (w .journey) (w .node) (w .secret)
+
+-- the next store of a work: "one word takes one value, both fixed at opening"
+unfoldable pub putOf : Work → Put
+unfolding runsOf
+putOf w = putFrom 0 (runsOf w) (w .position)
+
+-- no index of a kind is beyond the nodes
+unfoldable pub indexOk : Kind → Bool
+indexOk Nothing = true
+indexOk Disabling = true
+indexOk (Stash s) = ltb (s .node) nodeCount && ltb (s .holder) nodeCount
+indexOk (Update root) = ltb root nodeCount
+indexOk ColdBoot = true
