@@ -1,1 +1,5 @@
 -- Laws that belong to no one function.
+pub mod Cases
+pub mod Tab
+pub mod Packing
+pub mod Bounded

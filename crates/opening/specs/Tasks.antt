@@ -17,6 +17,9 @@ pub record Request : Type 0 where
   pub handoff : List ℕ
   pub verdict : Bool
 
+abbrev pub requestOf : ℕ → List ℕ → ℕ → List ℕ → Bool → Request
+requestOf code bytes caller handoff verdict = record { code = code; bytes = bytes; caller = caller; handoff = handoff; verdict = verdict }
+
 -- a piece of work (document 01's "work") and all its inputs, as they were given
 pub data Task : Type 0 where
   -- a request with nothing to store, and a boot that keeps all
