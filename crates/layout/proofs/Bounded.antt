@@ -1,12 +1,10 @@
 -- Every, count and first below a bound, for any bound: how a loop finds them, and what they say. Assumes nothing.
 use Prim.Native.Nat.{ℕ, zero, suc, _+_, _-_, _<_, _≤_}
-use mathlib.Core.Path.{_≡_, refl, ap, sym, _∙_}
+use mathlib.Core.Path.{_≡_, refl, _∙_}
 use mathlib.Core.Bool.{Bool, true, false, cond, _&&_}
-use mathlib.Core.Logic.{⊎-elim}
 use native.Mathlib.Omega.{arith}
 use native.Mathlib.Numerals.{add-one}
 use native.Mathlib.Decide.{decLt}
-use native.Mathlib.Nat.{zero-add}
 use Rattle.layout.proofs.Cases.{and-left, and-right}
 use Rattle.layout.specs.Below.{allBelow, countBelow, firstFrom}
 
@@ -66,38 +64,77 @@ module _ (p : ℕ → Bool) where
   unfolding countBelow
   count-no i c d h q e = rw (add-one, countBelow, q) (omega arith)
 
-  -- where some number has the property, the search finds one
-  first-le : (k i : ℕ) → firstFrom p k i ≤ i + k
+  -- where a search ends: at most at its bound, before it where the property holds, and never beyond such a number
+  pub first-le : (k i : ℕ) → firstFrom p k i ≤ i + k
   unfolding firstFrom
   first-le zero i = omega arith
-  first-le (suc k) i = cond-le (p i) (first-le k (i + 1))
+  first-le (suc k) i = by-test (p i) (first-le k (i + 1))
     where
-      cond-le : (t : Bool) → firstFrom p k (i + 1) ≤ i + 1 + k → cond t i (firstFrom p k (i + 1)) ≤ i + suc k
-      cond-le true h = omega arith
-      cond-le false h = omega arith
+      by-test : (t : Bool) → firstFrom p k (i + 1) ≤ i + 1 + k → cond t i (firstFrom p k (i + 1)) ≤ i + suc k
+      by-test true h = omega arith
+      by-test false h = omega arith
 
-  missing : (k i j : ℕ) → firstFrom p k i ≡ i + k → j < k → p (i + j) ≡ false
+  pub first-there : (k i : ℕ) → firstFrom p k i < i + k → p (firstFrom p k i) ≡ true
   unfolding firstFrom
-  missing zero i j h l = absurd (omega arith)
-  missing (suc k) i zero h l = let e : i + 0 ≡ i = omega arith in rw e (here (p i) h)
+  first-there zero i h = absurd (omega arith)
+  first-there (suc k) i h = by-test (p i) refl (first-there k (i + 1)) h
     where
-      here : (t : Bool) → cond t i (firstFrom p k (i + 1)) ≡ i + suc k → t ≡ false
-      here true g = absurd (omega arith)
-      here false g = refl
-  missing (suc k) i (suc j) h l = let e : i + suc j ≡ i + 1 + j = omega arith in rw e (missing k (i + 1) j (on (p i) h) (omega arith))
-    where
-      on : (t : Bool) → cond t i (firstFrom p k (i + 1)) ≡ i + suc k → firstFrom p k (i + 1) ≡ i + 1 + k
-      on true g = absurd (omega arith)
-      on false g = omega arith
+      by-test : (t : Bool) → p i ≡ t → (firstFrom p k (i + 1) < i + 1 + k → p (firstFrom p k (i + 1)) ≡ true)
+          → cond t i (firstFrom p k (i + 1)) < i + suc k → p (cond t i (firstFrom p k (i + 1))) ≡ true
+      by-test true e on l = e
+      by-test false e on l = on (omega arith)
 
-  none-counted : (n : ℕ) → ((i : ℕ) → i < n → p i ≡ false) → countBelow n p ≡ 0
+  pub first-lowest : (k i j : ℕ) → i ≤ j → j < firstFrom p k i → p j ≡ false
+  unfolding firstFrom
+  first-lowest zero i j h l = absurd (omega arith)
+  first-lowest (suc k) i j h l = by-test (p i) refl (first-lowest k (i + 1) j) l
+    where
+      by-test : (t : Bool) → p i ≡ t → (i + 1 ≤ j → j < firstFrom p k (i + 1) → p j ≡ false) → j < cond t i (firstFrom p k (i + 1)) → p j ≡ false
+      by-test true e on g = absurd (omega arith)
+      by-test false e on g = elim (decLt i j) [ yes b ↦ on (omega arith) g | no b ↦ (let q : j ≡ i = omega arith in rw q e) ]
+
+  pub none-counted : (n : ℕ) → ((i : ℕ) → i < n → p i ≡ false) → countBelow n p ≡ 0
   unfolding countBelow
   none-counted zero h = refl
   none-counted (suc n) h = rw (h n (omega arith), none-counted n (λ i l. h i (omega arith)))
 
+  -- where some number has the property, the search finds one
   pub counted-found : (n : ℕ) → 0 < countBelow n p → firstFrom p n 0 < n
   counted-found n h = elim (decLt (firstFrom p n 0) n) [
     | yes g ↦ g
-    | no g ↦ (let e : firstFrom p n 0 ≡ 0 + n = omega (arith, first-le n 0) in
-        absurd (omega (arith, none-counted n (λ i l. rw zero-add at (missing n 0 i e l)))))
+    | no g ↦ absurd (omega (arith, none-counted n (λ i l. first-lowest n 0 i (omega arith) (omega arith))))
   ]
+
+  -- where just one number has the property, it is the one found
+  one-more : (n : ℕ) → p n ≡ true → countBelow (suc n) p ≡ countBelow n p + 1
+  unfolding countBelow
+  one-more n q = rw q
+
+  last-counts : (n : ℕ) → countBelow n p ≤ countBelow (suc n) p
+  unfolding countBelow
+  last-counts n = omega arith
+
+  pub has-counted : (n i : ℕ) → i < n → p i ≡ true → 0 < countBelow n p
+  has-counted zero i l q = absurd (omega arith)
+  has-counted (suc n) i l q = elim (decLt i n) [
+    | yes g ↦ omega (arith, has-counted n i g q, last-counts n)
+    | no g ↦ (let e : i ≡ n = omega arith in omega (arith, one-more n (rw e at q)))
+  ]
+
+  -- two numbers with the property count for two
+  counted-two : (n i j : ℕ) → i < j → j < n → p i ≡ true → p j ≡ true → 1 < countBelow n p
+  counted-two zero i j a b q r = absurd (omega arith)
+  counted-two (suc n) i j a b q r = elim (decLt j n) [
+    | yes g ↦ omega (arith, counted-two n i j a g q r, last-counts n)
+    | no g ↦ (let e : j ≡ n = omega arith in omega (arith, one-more n (rw e at r), has-counted n i (omega arith) q))
+  ]
+
+  pub found-only : (n i : ℕ) → countBelow n p ≡ 1 → i < n → p i ≡ true → i ≡ firstFrom p n 0
+  found-only n i h l q =
+      let f = firstFrom p n 0 in
+      let b : f < n = counted-found n (omega arith) in
+      let t : p f ≡ true = first-there n 0 (omega arith) in
+      elim (decLt i f) [
+        | yes g ↦ absurd (omega (arith, counted-two n i f g b q t))
+        | no g ↦ elim (decLt f i) [ yes k ↦ absurd (omega (arith, counted-two n f i k l t q)) | no k ↦ omega arith ]
+      ]

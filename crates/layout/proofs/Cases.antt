@@ -1,6 +1,6 @@
 -- How a function's tests decide a definition by cases. Assumes nothing.
 use mathlib.Core.Path.{_≡_, refl, sym, _∙_}
-use mathlib.Core.Bool.{Bool, true, false, _&&_, _||_}
+use mathlib.Core.Bool.{Bool, true, false, not, _&&_}
 use Prim.Native.Nat.{ℕ}
 use native.Mathlib.Omega.{arith}
 use borrow.Author.Needs.{needs}
@@ -9,6 +9,21 @@ use borrow.Author.Tests.{lt-ltb, le-ltb, le-leb, lt-leb, eq-eqb, ne-eqb}
 -- what a callee ensures of its result, and the test on that result
 pub told : {A : Type 0} {r x b : A} → r ≡ x → r ≡ b → x ≡ b
 told p q = sym p ∙ q
+
+-- the same of a test that negates the result
+pub told-no : {r x : Bool} → r ≡ x → not r ≡ true → x ≡ false
+told-no {r} p q = sym p ∙ negated r q
+  where
+    negated : (b : Bool) → not b ≡ true → b ≡ false
+    negated true h = sym h
+    negated false h = refl
+
+pub told-yes : {r x : Bool} → r ≡ x → not r ≡ false → x ≡ true
+told-yes {r} p q = sym p ∙ negated r q
+  where
+    negated : (b : Bool) → not b ≡ false → b ≡ true
+    negated true h = refl
+    negated false h = sym h
 
 pub ruleset cases = (needs, lt-ltb, le-ltb, le-leb, lt-leb, eq-eqb, ne-eqb)
 

@@ -1,12 +1,13 @@
 -- Bytes to words and back (document 01: "packed four to a word, first byte lowest"), both ways. Assumes nothing.
-use Prim.Native.Nat.{ℕ, zero, suc, _+_, _*_, _/_, _%_, _^_, _<_}
+use Prim.Native.Nat.{ℕ, zero, suc, _+_, _*_, _/_, _%_, _^_, _<_, _≤_}
 use mathlib.Core.Path.{_≡_, refl, sym, ap, ap₂, _∙_}
 use mathlib.Core.List.{List}
 use native.Mathlib.Omega.{arith}
-use native.Mathlib.Nat.{zero-add, div-one, div-div-eq-div-mul}
-use lib.ListN.{length, getD}
-use Rattle.layout.specs.Words.{tab, le32, byteOf, wordsAt, bytesIn, part}
-use Rattle.layout.proofs.Tab.{length-tab, getD-tab, tab-is}
+use native.Mathlib.Nat.{add-zero, zero-add, div-one, div-div-eq-div-mul}
+use lib.ListN.{length, getD, take, drop, length-drop}
+use lib.Seq.{length-take-le, getD-take, getD-drop}
+use Rattle.layout.specs.Words.{le16, le32, byteOf, wordsAt, bytesIn, part}
+use Rattle.layout.proofs.Tab.{getD-past, length-tab, getD-tab, tab-is}
 
 pub length-words : (n : ℕ) (b : List ℕ) (at : ℕ) → length (wordsAt n b at) ≡ n
 unfolding wordsAt
@@ -31,6 +32,18 @@ getD-bytes n ws i h = getD-tab (λ k. byteOf (getD ws (k / 4) 0) (k % 4)) n i h
 pub getD-part : (n : ℕ) (l : List ℕ) (at i : ℕ) → i < n → getD (part n l at) i 0 ≡ getD l (at + i) 0
 unfolding part
 getD-part n l at i h = getD-tab (λ k. getD l (at + k) 0) n i h
+
+-- a number from its bytes, one by one
+module _ (l : List ℕ) (at a b : ℕ) (first : a ≡ getD l (at + 0) 0) (second : b ≡ getD l (at + 1) 0) where
+  pub le16-read : a + 256 * b ≡ le16 l at
+  le16-read = rw (first, second, add-zero)
+
+  pub le32-read : (c d : ℕ) → c ≡ getD l (at + 2) 0 → d ≡ getD l (at + 3) 0 → a + 256 * b + 65536 * c + 16777216 * d ≡ le32 l at
+  le32-read c d third fourth = rw (first, second, third, fourth, add-zero)
+
+-- past the end of the bytes
+pub le32-past : (l : List ℕ) (i : ℕ) → length l ≤ i → 0 ≡ le32 l i
+le32-past l i h = omega (arith, getD-past l i h, getD-past l (i + 1) (omega arith), getD-past l (i + 2) (omega arith), getD-past l (i + 3) (omega arith))
 
 -- a byte of four, from the word they make
 picked : (a b c d w : ℕ) → a < 256 → b < 256 → c < 256 → d < 256 → w ≡ a + 256 * b + 65536 * c + 16777216 * d
@@ -96,3 +109,10 @@ words-bytes n ws h small = tab-is (λ k. le32 (bytesIn (4 * n) ws) (0 + 4 * k)) 
         let b2 = get 2 (omega arith) in
         let b3 = get 3 (omega arith) in
         ap (le32 (bytesIn (4 * n) ws)) z ∙ same b0 b1 b2 b3 ∙ joined (getD ws i 0) (small i)
+
+-- a part that lies within a list
+pub part-within : (n : ℕ) (l : List ℕ) (at : ℕ) → at + n ≤ length l → part n l at ≡ take n (drop at l)
+unfolding part
+part-within n l at h =
+    let long : length (take n (drop at l)) ≡ n = length-take-le n (drop at l) (omega (arith, length-drop at l)) in
+    tab-is (λ k. getD l (at + k) 0) (take n (drop at l)) n long (λ i b. sym (getD-take n (drop at l) i 0 b ∙ getD-drop at l i 0))

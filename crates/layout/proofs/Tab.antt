@@ -1,11 +1,11 @@
 -- Lists made by a function of the index. Assumes nothing.
-use Prim.Native.Nat.{ℕ, zero, suc, _+_, _<_}
-use mathlib.Core.Path.{_≡_, refl, sym, ap, ap₂, _∙_}
+use Prim.Native.Nat.{ℕ, zero, suc, _+_, _<_, _≤_}
+use mathlib.Core.Path.{_≡_, refl, sym, ap, _∙_}
 use mathlib.Core.List.{List, [], _∷_, _++_}
 use native.Mathlib.Numerals.{add-one}
 use native.Mathlib.Omega.{arith}
 use native.Mathlib.Decide.{decLt}
-use lib.ListN.{length, getD, take, set, length-append, length-replicate, getD-replicate, List·getD-append}
+use lib.ListN.{length, getD, take, set, length-append, length-replicate, getD-replicate, List·getD-append, List·getD-eq-default}
 use lib.Seq.{take-suc-set, take-all, ext-getD, getD-at}
 use Rattle.layout.specs.Words.{tab, zeros}
 
@@ -16,6 +16,10 @@ length-zeros n = length-replicate n 0
 pub getD-zeros : (n i : ℕ) → i < n → getD (zeros n) i 0 ≡ 0
 unfolding zeros
 getD-zeros n i h = getD-replicate n i 0 0 h
+
+-- past the end of a list
+pub getD-past : (l : List ℕ) (i : ℕ) → length l ≤ i → 0 ≡ getD l i 0
+getD-past l i h = sym (List·getD-eq-default l 0 {n = i} h)
 
 module _ (f : ℕ → ℕ) where
   pub length-tab : (n : ℕ) → length (tab n f) ≡ n

@@ -1,7 +1,10 @@
-// Where each field of the memory image stands, and byte strings as words.
+// Where each field of the memory image stands, words of an image, and byte strings as words.
 //
 // The number of nodes and the words of a node are named here and in specs/Sizes.antt, and nowhere
 // else.
+pub mod image;
+pub mod little_endian;
+
 pub const REGISTERS: usize = 32;
 
 pub const REGISTER_WORDS: usize = 12;
@@ -11,6 +14,10 @@ pub const NODES: usize = 24;
 pub const NODE_WORDS: usize = 34;
 
 // The first word of each part of the image.
+pub const MARK_AT: usize = 0;
+
+pub const ATTESTATION_AT: usize = 1;
+
 pub const SECRET_AT: usize = 4;
 
 pub const REGISTERS_AT: usize = 16;
@@ -18,6 +25,30 @@ pub const REGISTERS_AT: usize = 16;
 pub const NODES_AT: usize = REGISTERS_AT + REGISTERS * REGISTER_WORDS;
 
 pub const IMAGE_WORDS: usize = NODES_AT + NODES * NODE_WORDS;
+
+// The first word of each field of a node, counted within the node.
+pub const HANDLE_AT: usize = 2;
+
+pub const HANDLE_WORDS: usize = 5;
+
+pub const FLAGS_AT: usize = 7;
+
+pub const CURRENT_AT: usize = 8;
+
+pub const CUMULATIVE_AT: usize = 20;
+
+pub const TYPE_AT: usize = 32;
+
+pub const LOCALITY_AT: usize = 33;
+
+// What stands for the root's parent, each word of a retired handle, the root's flags and its type.
+pub const ROOT_MARK: u32 = 0xFF;
+
+pub const RETIRED_WORD: u32 = 0xFFFFFFFF;
+
+pub const INTERNAL_FLAG: u32 = 0x80000000;
+
+pub const ROOT_TYPE: u32 = 0x4D4A5452;
 
 // The longest answer, in bytes.
 pub const ANSWER_MAX: usize = 104;

@@ -10,6 +10,20 @@ use Rattle.tree.specs.Record.{Node, defaultHandle}
 abbrev pub measured : List ℕ → List ℕ
 measured d = extended (zeros 48) d
 
+-- a node with tag 0 and the default handle
+abbrev pub defaultNode : ℕ → ℕ → List ℕ → List ℕ → ℕ → ℕ → Node
+defaultNode parent flags current cumulative type locality =
+    record {
+      parent = parent;
+      tag = 0;
+      handle = defaultHandle;
+      flags = flags;
+      current = current;
+      cumulative = cumulative;
+      type = type;
+      locality = locality;
+    }
+
 -- "parent is the holder of the default handle, tag 0, default handle, flags 0, current is the digest, cumulative is 48 zero bytes extended by it,
 -- type from the request, locality the caller"
 abbrev pub childNode : ℕ → ℕ → List ℕ → ℕ → Node

@@ -1,1 +1,4 @@
 -- Laws that belong to no one function.
+pub mod Steps
+pub mod Meaning
+pub mod Cycles

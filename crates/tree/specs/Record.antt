@@ -27,11 +27,15 @@ pub record Node : Type 0 where
   pub type : ℕ
   pub locality : ℕ
 
--- the words of a used node, in order
+-- the words of a used node, in order: word 0, tag, handle, flags, current, cumulative, type, locality
+abbrev pub rowOf : ℕ → ℕ → List ℕ → ℕ → List ℕ → List ℕ → ℕ → ℕ → List ℕ
+rowOf first tag handle flags current cumulative type locality =
+    first ∷ tag ∷ (handle ++ (flags ∷ (current ++ (cumulative ++ (type ∷ locality ∷ [])))))
+
+-- "0 low half 1 if used .., high half the parent's index"
 unfoldable pub nodeRow : Node → List ℕ
 nodeRow n =
-    (1 + 2 ^ 16 * n .parent) ∷ n .tag
-    ∷ (handleRow (n .handle) ++ (n .flags ∷ (words48 (n .current) ++ (words48 (n .cumulative) ++ (n .type ∷ n .locality ∷ [])))))
+    rowOf (1 + 2 ^ 16 * n .parent) (n .tag) (handleRow (n .handle)) (n .flags) (words48 (n .current)) (words48 (n .cumulative)) (n .type) (n .locality)
 
 -- a place for a node: "a free node is all zero"
 abbrev pub slotRow : Option Node → List ℕ

@@ -1,0 +1,2 @@
+-- What every command's opening tests first.
+pub mod Screen

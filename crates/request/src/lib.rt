@@ -1,0 +1,8 @@
+// Opening a request (document 01, "Mailbox"): a module for each command.
+mod answer;
+mod disable;
+mod identity;
+pub mod open;
+mod screen;
+mod stash;
+mod verify;

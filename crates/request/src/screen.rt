@@ -1,0 +1,29 @@
+// What every command tests first: the request's length, and its checksum.
+ghost use mathlib.Core.Path.{_≡_};
+ghost use Prim.Native.Nat.{_≤_};
+ghost use lib.ListN.{length};
+ghost use Rattle.opening.specs.Tasks.{badChecksum};
+ghost use Rattle.request.specs.Screen.{screenOf};
+use layout::little_endian::read32;
+use opening::Status;
+
+fn bad_checksum(code: u32, bytes: &[u8]) -> bool
+    requires { ⌜ 4 ≤ length (now bytes) ⌝ }
+    ensures { λ r. ⌜ r ≡ badChecksum code (now (bytes .entry)) ⌝ }
+{
+    read32(bytes, 0) != message::checksum(code, &bytes[4..])
+}
+
+pub(crate) fn screen(code: u32, bytes: &[u8], n: usize) -> Status
+    requires { ⌜ 4 ≤ n ⌝ }
+    ensures { λ r. ⌜ r ≡ screenOf code (now (bytes .entry)) n ⌝ }
+{
+    if bytes.len() == n {
+        if bad_checksum(code, bytes) {
+            return Status::Refused(0x4243484B);
+        } else {
+            return Status::Ready;
+        }
+    }
+    Status::Refused(4)
+}
