@@ -1,12 +1,11 @@
 // Opening an update boot: a disabling where anything is amiss, else kept or updated by ROM's verdict.
 ghost use mathlib.Core.Path.{_≡_};
 ghost use mathlib.Core.List.{[]};
-ghost use Prim.Native.Nat.{_≤_, _<_};
+ghost use Prim.Native.Nat.{_≤_};
 ghost use lib.ListN.{length};
-ghost use Rattle.layout.specs.Sizes.{imageWords, nodeCount, registerWords, nodeWords};
-ghost use Rattle.layout.specs.Words.{words48};
+ghost use Rattle.layout.specs.Sizes.{imageWords, nodeCount};
 ghost use Rattle.tree.specs.Nodes.{rootOf};
-ghost use Rattle.opening.specs.Works.{updateWork, rootValues};
+ghost use Rattle.opening.specs.Works.{updateWork};
 ghost use Rattle.opening.specs.Openings.{rootMatches, intact, openUpdateBoot};
 use crate::inputs::inputs_ok;
 use layout::ANSWER_MAX;
@@ -15,14 +14,15 @@ use layout::CURRENT_AT;
 use layout::IMAGE_WORDS;
 use layout::NODE_WORDS;
 use layout::NODES_AT;
+use layout::PCR3_AT;
 use layout::REGISTER_WORDS;
-use layout::REGISTERS_AT;
 use layout::image::word;
 use layout::little_endian::pack;
 use opening::Booted;
 use opening::Outcome;
 use opening::values::bytes_in;
 use opening::values::bytes_of;
+use opening::values::row_of;
 use opening::works::bare_work;
 use opening::works::boot_ready;
 use opening::works::boot_refused;
@@ -32,17 +32,14 @@ use tree::index::root_index;
 use work::Kind;
 use work::Work;
 
-// The first word of PCR3.
-const JOURNEY_AT: usize = REGISTERS_AT + REGISTER_WORDS * 3;
-
 // The root's current measurement equals PCR3, word for word.
 fn root_matches(image: &[u32], root: usize) -> bool
     requires { ⌜ (root ≡ rootOf (now image)) × (root ≤ nodeCount) ⌝ }
     ensures { λ r. ⌜ r ≡ rootMatches (now (image .entry)) ⌝ }
 {
-    let at = NODES_AT + NODE_WORDS * root + CURRENT_AT;
+    let at = NODES_AT + NODE_WORDS * root;
     for k in 0..REGISTER_WORDS {
-        if word(image, at + k) != word(image, JOURNEY_AT + k) {
+        if word(image, at + (CURRENT_AT + k)) != word(image, PCR3_AT + k) {
             return false;
         }
     }
@@ -65,22 +62,6 @@ fn is_intact(image: &[u32]) -> bool
     root_matches(image, root_index(image))
 }
 
-// A root's new current and cumulative measurement, where a node has them.
-fn root_values(current: [u8; 48], cumulative: [u8; 48]) -> [u32; NODE_WORDS]
-    ensures { λ r. ⌜ r ≡ rootValues current cumulative ⌝ }
-{
-    let first = pack(&current, 0);
-    let second = pack(&cumulative, 0);
-    let mut out = [0u32; NODE_WORDS];
-    let mut k = 0;
-    while k < REGISTER_WORDS {
-        out[CURRENT_AT + k] = first[k];
-        out[CUMULATIVE_AT + k] = second[k];
-        k += 1;
-    }
-    out
-}
-
 fn update_work(image: &[u32], digest: &[u8], secret: &[u8]) -> Work
     requires { ⌜ length (now digest) ≡ 48 ⌝ }
     ensures { λ r. ⌜ r ≡ updateWork (now (image .entry)) (now (digest .entry)) (now (secret .entry)) [] ⌝ }
@@ -88,12 +69,12 @@ fn update_work(image: &[u32], digest: &[u8], secret: &[u8]) -> Work
     let root = root_index(image);
     let d = bytes_of(digest, 0);
     let current = extend([0u8; 48], d);
-    let journey = extend(bytes_in(image, JOURNEY_AT), d);
+    let journey = extend(bytes_in(image, PCR3_AT), d);
     let before = bytes_in(image, NODES_AT + NODE_WORDS * root + CUMULATIVE_AT);
     let cumulative = extend(before, journey);
     let register = pack(&current, 0);
     let words = pack(&journey, 0);
-    let node = root_values(journey, cumulative);
+    let node = row_of(0, 0, journey, cumulative, 0, 0);
     let kept = pack(secret, 0);
     Work {
         kind: Kind::Update(root),

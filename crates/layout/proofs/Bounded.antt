@@ -105,7 +105,7 @@ module _ (p : ℕ → Bool) where
     | no g ↦ absurd (omega (arith, none-counted n (λ i l. first-lowest n 0 i (omega arith) (omega arith))))
   ]
 
-  -- where just one number has the property, it is the one found
+  -- each number with the property counts
   one-more : (n : ℕ) → p n ≡ true → countBelow (suc n) p ≡ countBelow n p + 1
   unfolding countBelow
   one-more n q = rw q
@@ -121,7 +121,6 @@ module _ (p : ℕ → Bool) where
     | no g ↦ (let e : i ≡ n = omega arith in omega (arith, one-more n (rw e at q)))
   ]
 
-  -- two numbers with the property count for two
   counted-two : (n i j : ℕ) → i < j → j < n → p i ≡ true → p j ≡ true → 1 < countBelow n p
   counted-two zero i j a b q r = absurd (omega arith)
   counted-two (suc n) i j a b q r = elim (decLt j n) [
@@ -129,6 +128,7 @@ module _ (p : ℕ → Bool) where
     | no g ↦ (let e : j ≡ n = omega arith in omega (arith, one-more n (rw e at r), has-counted n i (omega arith) q))
   ]
 
+  -- where just one number has the property, it is the one found
   pub found-only : (n i : ℕ) → countBelow n p ≡ 1 → i < n → p i ≡ true → i ≡ firstFrom p n 0
   found-only n i h l q =
       let f = firstFrom p n 0 in

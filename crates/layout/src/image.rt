@@ -9,10 +9,10 @@ use crate::REGISTER_WORDS;
 pub fn word(image: &[u32], at: usize) -> u32
     ensures { λ r. ⌜ r ≡ getD (now (image .entry)) at 0 ⌝ }
 {
-    if at < image.len() {
-        return image[at];
+    if image.len() <= at {
+        return 0;
     }
-    0
+    image[at]
 }
 
 // The word k places after an index. The sum is taken only where it stays below the length.

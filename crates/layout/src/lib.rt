@@ -26,6 +26,13 @@ pub const NODES_AT: usize = REGISTERS_AT + REGISTERS * REGISTER_WORDS;
 
 pub const IMAGE_WORDS: usize = NODES_AT + NODES * NODE_WORDS;
 
+// The first word of the registers that the core extends: current, journey, stashed measurements.
+pub const PCR2_AT: usize = REGISTERS_AT + 2 * REGISTER_WORDS;
+
+pub const PCR3_AT: usize = REGISTERS_AT + 3 * REGISTER_WORDS;
+
+pub const PCR31_AT: usize = REGISTERS_AT + 31 * REGISTER_WORDS;
+
 // The first word of each field of a node, counted within the node.
 pub const HANDLE_AT: usize = 2;
 

@@ -26,6 +26,7 @@ pub fn byte(s: &[u8], at: usize, k: usize) -> u8
     0
 }
 
+// The same byte as a wider number.
 fn byte_after(s: &[u8], at: usize, k: usize) -> u32
     ensures { λ r. ⌜ r ≡ getD (now (s .entry)) (at + k) 0 ⌝ }
     ensures { λ r. ⌜ r < 256 ⌝ }

@@ -15,8 +15,8 @@ use crate::answer::plain_work;
 use crate::answer::sealed;
 use crate::screen::screen;
 use layout::NODES;
+use layout::PCR31_AT;
 use layout::REGISTER_WORDS;
-use layout::REGISTERS_AT;
 use layout::little_endian::pack;
 use layout::little_endian::read32;
 use opening::Opened;
@@ -34,9 +34,6 @@ use work::Kind;
 use work::StashAt;
 use work::Work;
 
-// The first word of PCR31.
-const STASH_REGISTER_AT: usize = REGISTERS_AT + REGISTER_WORDS * 31;
-
 // The work of a stash at the free node `node`.
 fn stash_work(image: &[u32], bytes: &[u8], caller: u32, node: usize) -> Work
     requires { ⌜ (length (now bytes) ≡ 60) × (node ≡ freeOf (now image)) ⌝ }
@@ -44,7 +41,7 @@ fn stash_work(image: &[u32], bytes: &[u8], caller: u32, node: usize) -> Work
 {
     let holder = holder_index(image);
     let digest = bytes_of(bytes, 8);
-    let extended = extend(bytes_in(image, STASH_REGISTER_AT), digest);
+    let extended = extend(bytes_in(image, PCR31_AT), digest);
     let cumulative = extend([0u8; 48], digest);
     let kind = read32(bytes, 4);
     let row = node_row(holder as u16, 0, digest, cumulative, kind, caller);

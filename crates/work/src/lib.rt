@@ -1,6 +1,23 @@
 // A piece of work: what it will store, how far it is, and its prepared answer.
+mod puts;
+
+ghost use mathlib.Core.Path.{_≡_};
+ghost use Prim.Native.Nat.{_<_};
+ghost use Rattle.layout.specs.Sizes.{imageWords};
+ghost use Rattle.work.specs.Table.{numberOf, indexOk, putOf};
+ghost use Rattle.work.specs.Entries.{wellShaped, finished, leftOf, storeResult, storeImage, answerResult, answerBuffer};
+use crate::puts::COLD_STORES;
+use crate::puts::DISABLING_STORES;
+use crate::puts::STASH_STORES;
+use crate::puts::UPDATE_STORES;
+use crate::puts::cold_put;
+use crate::puts::disabling_put;
+use crate::puts::stash_put;
+use crate::puts::update_put;
 use layout::ANSWER_MAX;
+use layout::IMAGE_WORDS;
 use layout::NODE_WORDS;
+use layout::NODES;
 use layout::REGISTER_WORDS;
 
 // Where a stash stores: the new node, and the node that held the default handle.
@@ -47,4 +64,138 @@ pub struct Stored {
 pub struct Answered {
     pub number: u32,
     pub written: usize,
+}
+
+// The number of stores of a kind of work.
+fn number(kind: Kind) -> usize
+    ensures { λ r. ⌜ r ≡ numberOf kind ⌝ }
+{
+    match kind {
+        Kind::Nothing => 0,
+        Kind::Disabling => DISABLING_STORES,
+        Kind::Stash(_) => STASH_STORES,
+        Kind::Update(_) => UPDATE_STORES,
+        Kind::ColdBoot => COLD_STORES,
+    }
+}
+
+// Whether no index of a kind is beyond the nodes.
+fn index_ok(kind: Kind) -> bool
+    ensures { λ r. ⌜ r ≡ indexOk kind ⌝ }
+{
+    match kind {
+        Kind::Nothing => true,
+        Kind::Disabling => true,
+        Kind::Stash(at) => at.node < NODES && at.holder < NODES,
+        Kind::Update(root) => root < NODES,
+        Kind::ColdBoot => true,
+    }
+}
+
+impl Work {
+    // Whether the work's indices, answer's length and position are within their bounds.
+    fn well_shaped(self) -> bool
+        ensures { λ r. ⌜ r ≡ wellShaped self ⌝ }
+    {
+        let kind = self.kind;
+        index_ok(kind) && (self.answer_len <= ANSWER_MAX && self.position <= number(kind))
+    }
+
+    // Stores left; 0 of a work that is not well shaped.
+    pub fn left(self) -> usize
+        ensures { λ r. ⌜ r ≡ leftOf self ⌝ }
+    {
+        let kind = self.kind;
+        if self.well_shaped() {
+            return number(kind) - self.position;
+        }
+        0
+    }
+
+    // The next store of a work that has one left.
+    fn next(self) -> Put
+        requires { ⌜ 0 < leftOf self ⌝ }
+        ensures { λ r. ⌜ r ≡ putOf self ⌝ }
+        ensures { λ r. ⌜ r .address < imageWords ⌝ }
+    {
+        let kind = self.kind;
+        let k = self.position;
+        let register = self.register;
+        let journey = self.journey;
+        let node = self.node;
+        let secret = self.secret;
+        match kind {
+            Kind::Nothing => Put {
+                address: 0,
+                value: 0,
+            },
+            Kind::Disabling => disabling_put(k),
+            Kind::Stash(at) => stash_put(at, register, node, k),
+            Kind::Update(root) => update_put(root, register, journey, node, secret, k),
+            Kind::ColdBoot => cold_put(register, journey, node, secret, k),
+        }
+    }
+
+    // One store. Refused, with nothing stored: 1, an image of the wrong size; then 9, no store left.
+    pub fn store(self, image: &mut [u32]) -> Stored
+        ensures { λ r. ⌜ r ≡ storeResult self (now (image .entry)) ⌝ }
+        ensures { λ r. ⌜ now (image .exit) ≡ storeImage self (now (image .entry)) ⌝ }
+    {
+        if image.len() != IMAGE_WORDS {
+            return Stored {
+                number: 1,
+                work: self,
+            };
+        }
+        if self.left() == 0 {
+            return Stored {
+                number: 9,
+                work: self,
+            };
+        }
+        let put = self.next();
+        let at = put.address;
+        image[at] = put.value;
+        let mut moved = self;
+        moved.position = self.position + 1;
+        Stored {
+            number: 0,
+            work: moved,
+        }
+    }
+
+    // Whether the last store is made.
+    fn finished(self) -> bool
+        ensures { λ r. ⌜ r ≡ finished self ⌝ }
+    {
+        let kind = self.kind;
+        self.well_shaped() && self.position == number(kind)
+    }
+
+    // The answer into the front of the buffer. Refused, with nothing written: 7, stores left or not
+    // well shaped; then 8, a buffer shorter than the answer.
+    pub fn answer(self, buffer: &mut [u8]) -> Answered
+        ensures { λ r. ⌜ r ≡ answerResult self (now (buffer .entry)) ⌝ }
+        ensures { λ r. ⌜ now (buffer .exit) ≡ answerBuffer self (now (buffer .entry)) ⌝ }
+    {
+        if !self.finished() {
+            return Answered {
+                number: 7,
+                written: 0,
+            };
+        }
+        let n = self.answer_len;
+        if buffer.len() < n {
+            return Answered {
+                number: 8,
+                written: 0,
+            };
+        }
+        let bytes = self.answer;
+        bytes::copy(&bytes[..n], buffer);
+        Answered {
+            number: 0,
+            written: n,
+        }
+    }
 }

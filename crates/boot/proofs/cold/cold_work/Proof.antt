@@ -1,48 +1,47 @@
+use native.Mathlib.Omega.{arith}
+use mathlib.Core.Path.{_≡_, refl, _∙_}
+use Prim.Native.Nat.{ℕ, _≤_}
+use mathlib.Core.List.{List}
+use lib.ListN.{length, take, drop}
+use lib.Seq.{take-all}
+use Rattle.layout.specs.Words.{zeros, part}
+use Rattle.layout.proofs.Packing.{part-within}
+use Rattle.opening.specs.Works.{coldWork}
 use borrow.Author.Needs.{needs}
 use Rattle.boot.proofs.cold.cold_work.Statement.{statement}
 use Rattle.boot.proofs.cold.cold_work.Tie as tie
-use Rattle.boot.proofs.cold.cold_work.Reads as reads
-use Rattle.boot.proofs.cold.cold_work.Lts as lts
-use Rattle.layout.proofs.little_endian.pack.Reads as pack-reads
-use Rattle.opening.proofs.values.bytes_of.Reads as bytes-of-reads
-use Rattle.opening.proofs.values.node_row.Reads as node-row-reads
-use Rattle.sha384.proofs.digest.extend.Reads as extend-reads
 
--- src/cold.rt:29:32
 bytes-of-requires : tie.Need-bytes-of-requires
 bytes-of-requires c κs = search needs
 
--- src/cold.rt:29:19
 extend-requires : tie.Need-extend-requires
 extend-requires c κs = search needs
 
--- src/cold.rt:30:9
 extend-requires-2 : tie.Need-extend-requires-2
 extend-requires-2 c κs = search needs
 
--- src/cold.rt:31:25
 slice-aggregate-pack : tie.Need-slice-aggregate-pack
 slice-aggregate-pack c = search needs
 
--- src/cold.rt:31:9
 pack-requires : tie.Need-pack-requires
 pack-requires c κs = search needs
 
--- src/cold.rt:32:25
 cast-node-row : tie.Need-cast-node-row
 cast-node-row c = search needs
 
--- src/cold.rt:32:9
 node-row-requires : tie.Need-node-row-requires
 node-row-requires c κs = search needs
 
--- src/cold.rt:33:9
 pack-requires-2 : tie.Need-pack-requires-2
 pack-requires-2 c κs = search needs
 
--- src/cold.rt:24:1
 returns : tie.Need-returns
-returns c = ?
+unfolding coldWork zeros
+returns c =
+    let g = c .before .before .before .before .before .before .before .before .before in
+    let d = g .args .digest .now in
+    let digest : part 48 d 0 ≡ d = part-within 48 d 0 (omega (arith, g .pre)) ∙ take-all 48 d (omega (arith, g .pre)) in
+    rw (c .pack2 .ensures, c .before .node-row .ensures, c .before .before .pack .ensures, c .before .before .before .before .extend2 .ensures, c .before .before .before .before .before .extend .ensures, c .before .before .before .before .before .before .bytes-of .ensures, digest)
 
 pub cold-work-spec : {M : Type 1} → statement M
 cold-work-spec =

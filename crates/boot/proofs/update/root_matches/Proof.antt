@@ -1,66 +1,78 @@
+use native.Mathlib.Omega.{arith}
+use borrow.Author.Needs.{needs}
+use Prim.Native.Nat.{ℕ, _+_, _-_, _≤_}
+use mathlib.Core.Path.{_≡_, sym, ap, _∙_}
+use mathlib.Core.Bool.{Bool, true, false}
+use mathlib.Core.List.{List}
+use lib.Dec.{eqb}
+use lib.ListN.{getD}
+use borrow.Author.Tests.{eq-eqb, ne-eqb}
+use Rattle.layout.specs.Sizes.{registerWords, registerAt, journeyRegister, nodeAt, currentAt}
+use Rattle.layout.specs.Below.{allBelow}
+use Rattle.layout.proofs.Bounded.{all-none, all-more, all-fails}
+use Rattle.tree.specs.Nodes.{word, rootOf}
+use Rattle.opening.specs.Openings.{rootMatches}
 use Rattle.boot.proofs.update.root_matches.Statement.{statement}
 use Rattle.boot.proofs.update.root_matches.Tie as tie
-use Rattle.boot.proofs.update.root_matches.Reads as reads
-use Rattle.boot.proofs.update.root_matches.Lts as lts
-use Rattle.layout.proofs.image.word.Reads as word-reads
+
+-- word k of a node's current measurement and of PCR3 are the same
+abbrev same : List ℕ → ℕ → ℕ → Bool
+same image root k = eqb (getD image (nodeAt root + (currentAt + k)) 0) (getD image (registerAt journeyRegister + k) 0)
 
 abbrev Inv-loop : tie.InvT-loop
-Inv-loop image root at k₀ k = ?
+Inv-loop image root at k₀ k = (k ≤ registerWords) × (allBelow k (same image root) ≡ true)
 
 abbrev μ-loop : tie.MeasureT-loop
-μ-loop image root at k₀ k = ?
+μ-loop image root at k₀ k = registerWords - k
 
--- src/update.rt:43:25
 mul-at : tie.Need-mul-at Inv-loop μ-loop
-mul-at c = ?
+mul-at c = search needs
 
--- src/update.rt:43:14
 add-at : tie.Need-add-at Inv-loop μ-loop
-add-at c = ?
+add-at c = search needs
 
--- src/update.rt:43:14
-add-at-2 : tie.Need-add-at-2 Inv-loop μ-loop
-add-at-2 c = ?
-
--- src/update.rt:44:5
 loop-holds : tie.Need-loop-holds Inv-loop μ-loop
-loop-holds c = ?
+loop-holds c = (search needs, all-none _)
 
--- src/update.rt:45:24
 add-word : tie.Need-add-word Inv-loop μ-loop
-add-word c = ?
+add-word c = search needs
 
--- src/update.rt:45:12
-word-requires : tie.Need-word-requires Inv-loop μ-loop
-word-requires c κs = ?
-
--- src/update.rt:45:47
 add-word-2 : tie.Need-add-word-2 Inv-loop μ-loop
-add-word-2 c = ?
+add-word-2 c = search needs
 
--- src/update.rt:45:35
+word-requires : tie.Need-word-requires Inv-loop μ-loop
+word-requires c κs = search needs
+
+add-word-3 : tie.Need-add-word-3 Inv-loop μ-loop
+add-word-3 c = search needs
+
 word-requires-2 : tie.Need-word-requires-2 Inv-loop μ-loop
-word-requires-2 c κs = ?
+word-requires-2 c κs = search needs
 
--- src/update.rt:46:13
 returns : tie.Need-returns Inv-loop μ-loop
-returns c = ?
+unfolding rootMatches word
+returns c =
+    let a = c .before .before .before .before .before .before .args in
+    sym (ap (λ (r : ℕ). allBelow registerWords (same (a .image .now) r)) (sym (c .before .before .before .before .before .before .pre .0))
+    ∙ all-fails (same (a .image .now) (a .root)) (c .before .before .before .before .loop .k) registerWords (ne-eqb _ _ (λ e. c .if1 .taken (c .before .before .word .ensures ∙ e ∙ sym (c .before .word2 .ensures)))) (omega arith))
 
--- src/update.rt:44:9
 add-k : tie.Need-add-k Inv-loop μ-loop
-add-k c = ?
+add-k c = search needs
 
--- src/update.rt:44:5
 loop-less : tie.Need-loop-less Inv-loop μ-loop
-loop-less c = ?
+loop-less c = search needs
 
--- src/update.rt:44:5
 loop-again : tie.Need-loop-again Inv-loop μ-loop
-loop-again c = ?
+loop-again c =
+    let a = c .before .before .before .before .before .before .args in
+    (omega arith, all-more (same (a .image .now) (a .root)) (c .before .before .before .before .loop .k) (c .before .before .before .before .loop .inv .1) (eq-eqb _ _ (sym (c .before .before .word .ensures) ∙ c .if1 .left ∙ c .before .word2 .ensures)))
 
--- src/update.rt:39:1
 returns-2 : tie.Need-returns-2 Inv-loop μ-loop
-returns-2 c = ?
+unfolding rootMatches word
+returns-2 c =
+    let a = c .before .before .before .args in
+    let e : c .before .loop .k ≡ registerWords = omega arith in
+    sym (ap (λ (r : ℕ). allBelow registerWords (same (a .image .now) r)) (sym (c .before .before .before .pre .0)) ∙ (rw e at (c .before .loop .inv .1)))
 
 pub root-matches-spec : {M : Type 1} → statement M
 root-matches-spec =
@@ -70,11 +82,11 @@ root-matches-spec =
     μ-loop
     mul-at
     add-at
-    add-at-2
     loop-holds
     add-word
-    word-requires
     add-word-2
+    word-requires
+    add-word-3
     word-requires-2
     returns
     add-k

@@ -1,0 +1,81 @@
+use mathlib.Core.Path.{_≡_}
+use lib.ListN.{length}
+use borrow.Author.Tests.{eq-eqb, ne-eqb, not-true, not-false}
+use Rattle.layout.specs.Sizes.{imageWords}
+use Rattle.layout.proofs.Cases.{told-no, told-yes}
+use Rattle.opening.specs.Works.{workAt}
+use Rattle.opening.specs.Openings.{openUpdateBoot}
+use Rattle.boot.proofs.Sizes.{digest-length}
+use borrow.Author.Needs.{needs}
+use Rattle.boot.proofs.update.open_update_boot.Statement.{statement}
+use Rattle.boot.proofs.update.open_update_boot.Tie as tie
+
+boot-refused-requires : tie.Need-boot-refused-requires
+boot-refused-requires c κs = search needs
+
+returns : tie.Need-returns
+unfolding openUpdateBoot workAt
+returns c = rw (ne-eqb (length (c .before .before .before .before .before .args .image .now)) imageWords (c .before .if1 .taken)) (c .boot-refused .ensures)
+
+inputs-ok-requires : tie.Need-inputs-ok-requires
+inputs-ok-requires c κs = search needs
+
+boot-refused-requires-2 : tie.Need-boot-refused-requires-2
+boot-refused-requires-2 c κs = search needs
+
+returns-2 : tie.Need-returns-2
+unfolding openUpdateBoot workAt
+returns-2 c = rw (eq-eqb (length (c .before .before .before .before .before .before .before .args .image .now)) imageWords (c .before .before .before .if1 .left), told-no (c .before .before .inputs-ok .ensures) (c .before .if2 .taken)) (c .boot-refused2 .ensures)
+
+is-intact-requires : tie.Need-is-intact-requires
+is-intact-requires c κs = search needs
+
+bare-work-requires : tie.Need-bare-work-requires
+bare-work-requires c κs = search needs
+
+boot-ready-requires : tie.Need-boot-ready-requires
+boot-ready-requires c κs = search needs
+
+returns-3 : tie.Need-returns-3
+unfolding openUpdateBoot workAt
+returns-3 c = rw (eq-eqb (length (c .before .before .before .before .before .before .before .before .before .before .args .image .now)) imageWords (c .before .before .before .before .before .before .if1 .left), told-yes (c .before .before .before .before .before .inputs-ok .ensures) (c .before .before .before .before .if2 .left), told-no (c .before .before .before .is-intact .ensures) (c .before .before .if3 .taken)) (rw (c .before .bare-work .ensures) at (c .boot-ready .ensures))
+
+bare-work-requires-2 : tie.Need-bare-work-requires-2
+bare-work-requires-2 c κs = search needs
+
+boot-ready-requires-2 : tie.Need-boot-ready-requires-2
+boot-ready-requires-2 c κs = search needs
+
+returns-4 : tie.Need-returns-4
+unfolding openUpdateBoot workAt
+returns-4 c = rw (eq-eqb (length (c .before .before .before .before .before .before .before .before .before .before .before .args .image .now)) imageWords (c .before .before .before .before .before .before .before .if1 .left), told-yes (c .before .before .before .before .before .before .inputs-ok .ensures) (c .before .before .before .before .before .if2 .left), told-yes (c .before .before .before .before .is-intact .ensures) (c .before .before .before .if3 .left), not-true (c .before .before .before .before .before .before .before .before .before .before .before .args .verdict) (c .before .before .if4 .taken)) (rw (c .before .bare-work2 .ensures) at (c .boot-ready2 .ensures))
+
+update-work-requires : tie.Need-update-work-requires
+update-work-requires c κs = digest-length _ _ (told-yes (c .before .before .before .before .inputs-ok .ensures) (c .before .before .before .if2 .left))
+
+boot-ready-requires-3 : tie.Need-boot-ready-requires-3
+boot-ready-requires-3 c κs = search needs
+
+returns-5 : tie.Need-returns-5
+unfolding openUpdateBoot workAt
+returns-5 c = rw (eq-eqb (length (c .before .before .before .before .before .before .before .before .before .before .before .args .image .now)) imageWords (c .before .before .before .before .before .before .before .if1 .left), told-yes (c .before .before .before .before .before .before .inputs-ok .ensures) (c .before .before .before .before .before .if2 .left), told-yes (c .before .before .before .before .is-intact .ensures) (c .before .before .before .if3 .left), not-false (c .before .before .before .before .before .before .before .before .before .before .before .args .verdict) (c .before .before .if4 .left)) (rw (c .before .update-work .ensures) at (c .boot-ready3 .ensures))
+
+pub open-update-boot-spec : {M : Type 1} → statement M
+open-update-boot-spec =
+    tie.close
+    (tie.spec
+    boot-refused-requires
+    returns
+    inputs-ok-requires
+    boot-refused-requires-2
+    returns-2
+    is-intact-requires
+    bare-work-requires
+    boot-ready-requires
+    returns-3
+    bare-work-requires-2
+    boot-ready-requires-2
+    returns-4
+    update-work-requires
+    boot-ready-requires-3
+    returns-5)

@@ -1,0 +1,278 @@
+// The store table of document 01: for each kind of work, the word and the value of store k.
+//
+// Each function is the table's row from left to right, a test for each field: k below the field's
+// end is a store of that field.
+ghost use mathlib.Core.Path.{_≡_};
+ghost use Prim.Native.Nat.{_<_};
+ghost use Rattle.layout.specs.Sizes.{nodeCount, imageWords};
+ghost use Rattle.work.specs.Table.{total, putFrom, stashRuns, disablingRuns, updateRuns, coldRuns};
+use crate::Put;
+use crate::StashAt;
+use layout::ATTESTATION_AT;
+use layout::CUMULATIVE_AT;
+use layout::CURRENT_AT;
+use layout::HANDLE_AT;
+use layout::HANDLE_WORDS;
+use layout::IMAGE_WORDS;
+use layout::MARK_AT;
+use layout::NODE_WORDS;
+use layout::NODES_AT;
+use layout::PCR2_AT;
+use layout::PCR3_AT;
+use layout::PCR31_AT;
+use layout::REGISTER_WORDS;
+use layout::REGISTERS_AT;
+use layout::RETIRED_WORD;
+use layout::SECRET_AT;
+
+// The mark's values, and attestation's.
+const UNFINISHED: u32 = 0;
+
+const DONE: u32 = 1;
+
+const OFF: u32 = 0;
+
+const ON: u32 = 1;
+
+// Each row begins with mark 0 and ends with mark 1; disabling and cold boot go on with attestation.
+const MARK_END: usize = 1;
+
+const ATTESTATION_END: usize = MARK_END + 1;
+
+// Stash: mark 0; PCR31; the new node; the old holder's five handle words; mark 1.
+const STASH_REGISTER_END: usize = MARK_END + REGISTER_WORDS;
+
+const STASH_NODE_END: usize = STASH_REGISTER_END + NODE_WORDS;
+
+const STASH_HANDLE_END: usize = STASH_NODE_END + HANDLE_WORDS;
+
+pub(crate) const STASH_STORES: usize = STASH_HANDLE_END + 1;
+
+pub(crate) fn stash_put(
+    at: StashAt,
+    register: [u32; REGISTER_WORDS],
+    node: [u32; NODE_WORDS],
+    k: usize,
+) -> Put
+    requires { ⌜ at .node < nodeCount ⌝ }
+    requires { ⌜ at .holder < nodeCount ⌝ }
+    requires { ⌜ k < total (stashRuns at register node) ⌝ }
+    ensures { λ r. ⌜ r ≡ putFrom 0 (stashRuns at register node) k ⌝ }
+    ensures { λ r. ⌜ r .address < imageWords ⌝ }
+{
+    if k < MARK_END {
+        return Put {
+            address: MARK_AT,
+            value: UNFINISHED,
+        };
+    }
+    if k < STASH_REGISTER_END {
+        return Put {
+            address: PCR31_AT + (k - MARK_END),
+            value: register[k - MARK_END],
+        };
+    }
+    if k < STASH_NODE_END {
+        return Put {
+            address: NODES_AT + NODE_WORDS * at.node + (k - STASH_REGISTER_END),
+            value: node[k - STASH_REGISTER_END],
+        };
+    }
+    if k < STASH_HANDLE_END {
+        return Put {
+            address: NODES_AT + NODE_WORDS * at.holder + HANDLE_AT + (k - STASH_NODE_END),
+            value: RETIRED_WORD,
+        };
+    }
+    Put {
+        address: MARK_AT,
+        value: DONE,
+    }
+}
+
+// Disabling: mark 0; word 1 zero; secret zero; mark 1.
+const DISABLING_SECRET_END: usize = ATTESTATION_END + REGISTER_WORDS;
+
+pub(crate) const DISABLING_STORES: usize = DISABLING_SECRET_END + 1;
+
+pub(crate) fn disabling_put(k: usize) -> Put
+    requires { ⌜ k < total disablingRuns ⌝ }
+    ensures { λ r. ⌜ r ≡ putFrom 0 disablingRuns k ⌝ }
+    ensures { λ r. ⌜ r .address < imageWords ⌝ }
+{
+    if k < MARK_END {
+        return Put {
+            address: MARK_AT,
+            value: UNFINISHED,
+        };
+    }
+    if k < ATTESTATION_END {
+        return Put {
+            address: ATTESTATION_AT,
+            value: OFF,
+        };
+    }
+    if k < DISABLING_SECRET_END {
+        return Put {
+            address: SECRET_AT + (k - ATTESTATION_END),
+            value: 0,
+        };
+    }
+    Put {
+        address: MARK_AT,
+        value: DONE,
+    }
+}
+
+// Update: mark 0; PCR2; PCR3; secret; root's current; root's cumulative; mark 1.
+const UPDATE_REGISTER_END: usize = MARK_END + REGISTER_WORDS;
+
+const UPDATE_JOURNEY_END: usize = UPDATE_REGISTER_END + REGISTER_WORDS;
+
+const UPDATE_SECRET_END: usize = UPDATE_JOURNEY_END + REGISTER_WORDS;
+
+const UPDATE_CURRENT_END: usize = UPDATE_SECRET_END + REGISTER_WORDS;
+
+const UPDATE_CUMULATIVE_END: usize = UPDATE_CURRENT_END + REGISTER_WORDS;
+
+pub(crate) const UPDATE_STORES: usize = UPDATE_CUMULATIVE_END + 1;
+
+pub(crate) fn update_put(
+    root: usize,
+    register: [u32; REGISTER_WORDS],
+    journey: [u32; REGISTER_WORDS],
+    node: [u32; NODE_WORDS],
+    secret: [u32; REGISTER_WORDS],
+    k: usize,
+) -> Put
+    requires { ⌜ root < nodeCount ⌝ }
+    requires { ⌜ k < total (updateRuns root register journey node secret) ⌝ }
+    ensures { λ r. ⌜ r ≡ putFrom 0 (updateRuns root register journey node secret) k ⌝ }
+    ensures { λ r. ⌜ r .address < imageWords ⌝ }
+{
+    if k < MARK_END {
+        return Put {
+            address: MARK_AT,
+            value: UNFINISHED,
+        };
+    }
+    if k < UPDATE_REGISTER_END {
+        return Put {
+            address: PCR2_AT + (k - MARK_END),
+            value: register[k - MARK_END],
+        };
+    }
+    if k < UPDATE_JOURNEY_END {
+        return Put {
+            address: PCR3_AT + (k - UPDATE_REGISTER_END),
+            value: journey[k - UPDATE_REGISTER_END],
+        };
+    }
+    if k < UPDATE_SECRET_END {
+        return Put {
+            address: SECRET_AT + (k - UPDATE_JOURNEY_END),
+            value: secret[k - UPDATE_JOURNEY_END],
+        };
+    }
+    if k < UPDATE_CURRENT_END {
+        return Put {
+            address: NODES_AT + NODE_WORDS * root + CURRENT_AT + (k - UPDATE_SECRET_END),
+            value: node[CURRENT_AT + (k - UPDATE_SECRET_END)],
+        };
+    }
+    if k < UPDATE_CUMULATIVE_END {
+        return Put {
+            address: NODES_AT + NODE_WORDS * root + CUMULATIVE_AT + (k - UPDATE_CURRENT_END),
+            value: node[CUMULATIVE_AT + (k - UPDATE_CURRENT_END)],
+        };
+    }
+    Put {
+        address: MARK_AT,
+        value: DONE,
+    }
+}
+
+// Cold boot: mark 0; words 1 to the last; mark 1. Store k stores word k, so most ends are where the
+// image's next field begins. All is zero but word 1, the secret, PCR2, PCR3 and the root.
+const COLD_JOURNEY_END: usize = PCR3_AT + REGISTER_WORDS;
+
+const COLD_ROOT_END: usize = NODES_AT + NODE_WORDS;
+
+pub(crate) const COLD_STORES: usize = IMAGE_WORDS + 1;
+
+pub(crate) fn cold_put(
+    register: [u32; REGISTER_WORDS],
+    journey: [u32; REGISTER_WORDS],
+    node: [u32; NODE_WORDS],
+    secret: [u32; REGISTER_WORDS],
+    k: usize,
+) -> Put
+    requires { ⌜ k < total (coldRuns register journey node secret) ⌝ }
+    ensures { λ r. ⌜ r ≡ putFrom 0 (coldRuns register journey node secret) k ⌝ }
+    ensures { λ r. ⌜ r .address < imageWords ⌝ }
+{
+    if k < MARK_END {
+        return Put {
+            address: MARK_AT,
+            value: UNFINISHED,
+        };
+    }
+    if k < ATTESTATION_END {
+        return Put {
+            address: ATTESTATION_AT,
+            value: ON,
+        };
+    }
+    if k < SECRET_AT {
+        return Put {
+            address: k,
+            value: 0,
+        };
+    }
+    if k < REGISTERS_AT {
+        return Put {
+            address: k,
+            value: secret[k - SECRET_AT],
+        };
+    }
+    if k < PCR2_AT {
+        return Put {
+            address: k,
+            value: 0,
+        };
+    }
+    if k < PCR3_AT {
+        return Put {
+            address: k,
+            value: register[k - PCR2_AT],
+        };
+    }
+    if k < COLD_JOURNEY_END {
+        return Put {
+            address: k,
+            value: journey[k - PCR3_AT],
+        };
+    }
+    if k < NODES_AT {
+        return Put {
+            address: k,
+            value: 0,
+        };
+    }
+    if k < COLD_ROOT_END {
+        return Put {
+            address: k,
+            value: node[k - NODES_AT],
+        };
+    }
+    if k < IMAGE_WORDS {
+        return Put {
+            address: k,
+            value: 0,
+        };
+    }
+    Put {
+        address: MARK_AT,
+        value: DONE,
+    }
+}
