@@ -1,7 +1,7 @@
 use native.Mathlib.Omega.{arith}
 use borrow.Author.Needs.{needs}
 use mathlib.Core.Path.{_≡_, refl, sym, ap, _∙_}
-use Prim.Native.Nat.{ℕ, _+_, _-_, _≤_}
+use Prim.Native.Nat.{ℕ, _+_, _-_, _≤_, _<_}
 use lib.ListN.{length, length-set}
 use denote.Ref.{now}
 use Rattle.sha_block.specs.Rounds.{turns}
@@ -86,7 +86,7 @@ loop-again c =
     let g = c .before .before .before .before .before in
     let l = c .before .before .before .before .loop in
     let W = schedule 64 (g .args .m) in
-    let hi = c .before .before .before .loop-test .taken in
+    let hi : l .t < 80 = omega arith in
     let e = ring-next (g .args .m) (l .w) (l .t) _ (long g) (l .inv .0) hi (l .inv .3) (c .before .before .next .ensures) in
     let i : 16 + (l .t - 16) ≡ l .t = omega arith in
     let j : (l .t - 16) + 1 ≡ l .t + 1 - 16 = omega arith in (

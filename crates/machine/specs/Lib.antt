@@ -1,0 +1,2 @@
+-- One call of the machine, as the code has it.
+pub mod Call

@@ -1,0 +1,202 @@
+//! Writes docs/ANSWER.md's table: what a power cut after each store of each
+//! kind of work leaves, by running the engine.
+//!
+//! For each kind of work and each number of stores the engine is cold booted,
+//! one measurement is stashed, the work is opened and stored that far, the power
+//! is cut, and an update boot is opened and run to its end.
+
+use host::driver::{Replies, Script};
+
+const STASH: u32 = 0x4D45_4153;
+const DISABLE: u32 = 0x4453_424C;
+
+/// A number that is more than the stores of any work.
+const ALL: u32 = 10_000;
+
+const FIRST_NODE: usize = 400;
+const NODE_WORDS: usize = 34;
+
+struct Kind {
+    name: &'static str,
+    /// What is done before the work is opened.
+    before: fn(Script) -> Script,
+    /// How many replies of which kind that gives.
+    skip: fn(&mut Replies),
+    /// Opens the work.
+    open: fn(Script) -> Script,
+    /// Reads the reply to the opening: the number of stores.
+    left: fn(&mut Replies) -> u32,
+    /// Whether the image shows the work, against the image without it.
+    shown: fn(&Left, &Left) -> bool,
+    /// What is said of it where it counted, and where it did not.
+    counted: &'static str,
+    lost: &'static str,
+}
+
+fn stash_arguments(byte: u8) -> Vec<u8> {
+    let mut arguments = vec![0; 4];
+    arguments.extend([byte; 48]);
+    arguments.extend([0; 4]);
+    arguments
+}
+
+fn kinds() -> [Kind; 4] {
+    [
+        Kind {
+            name: "a new measurement (stash)",
+            before: |s| s,
+            skip: |_| (),
+            open: |s| s.request(STASH, &stash_arguments(0x44)),
+            left: |r| r.request(),
+            shown: |with, without| with.nodes == without.nodes + 1,
+            counted: "the new measurement is in the list",
+            lost: "the new measurement is not in the list; all earlier ones are",
+        },
+        Kind {
+            name: "a disable command",
+            before: |s| s,
+            skip: |_| (),
+            open: |s| s.request(DISABLE, &[]),
+            left: |r| r.request(),
+            shown: |with, without| without.on && !with.on && with.secret_zero,
+            counted: "attestation was switched off, as commanded",
+            lost: "nothing has changed",
+        },
+        Kind {
+            name: "an update of the runtime",
+            before: |s| s,
+            skip: |_| (),
+            open: |s| s.update_boot(&[0x55; 48], &[0x66; 48], true),
+            left: |r| r.boot().1,
+            shown: |with, without| with.root != without.root,
+            counted: "the new runtime is in the list",
+            lost: "the old runtime stays in the list; the update may be made again",
+        },
+        Kind {
+            name: "a boot that switches attestation off",
+            before: |s| s.request(DISABLE, &[]).stores(ALL),
+            skip: |r| {
+                r.request();
+                r.stores();
+            },
+            open: |s| s.update_boot(&[0x55; 48], &[0x66; 48], true),
+            left: |r| r.boot().1,
+            shown: |with, _| !with.on && with.secret_zero,
+            counted: "attestation was off and stays off",
+            lost: "attestation was off and stays off",
+        },
+    ]
+}
+
+/// What is left after the cut and the next update boot.
+#[derive(PartialEq)]
+struct Left {
+    /// Outcome of the next update boot.
+    outcome: u8,
+    on: bool,
+    secret_zero: bool,
+    nodes: usize,
+    root: Vec<u32>,
+}
+
+fn run(kind: &Kind, stores: Option<u32>) -> (u32, Option<Left>) {
+    let digest = [0x11; 48];
+    let secret = [0x22; 48];
+    let script = Script::new()
+        .cold_boot(&digest, &secret)
+        .stores(ALL)
+        .request(STASH, &stash_arguments(0x33))
+        .stores(ALL);
+    let mut script = (kind.open)((kind.before)(script));
+    if let Some(stores) = stores {
+        script = script
+            .stores(stores)
+            .cut()
+            .update_boot(&digest, &secret, false)
+            .stores(ALL)
+            .image();
+    }
+    let mut replies = script.run();
+    replies.boot();
+    replies.stores();
+    replies.request();
+    replies.stores();
+    (kind.skip)(&mut replies);
+    let number = (kind.left)(&mut replies);
+    let Some(stores) = stores else {
+        return (number, None);
+    };
+    assert_eq!(replies.stores(), stores);
+    let (outcome, _) = replies.boot();
+    replies.stores();
+    let image = replies.image();
+    let left = Left {
+        outcome,
+        on: image[1] == 1,
+        secret_zero: image[4..16].iter().all(|&word| word == 0),
+        nodes: (FIRST_NODE..image.len())
+            .step_by(NODE_WORDS)
+            .filter(|&at| image[at] % 65_536 == 1)
+            .count(),
+        root: image[FIRST_NODE..FIRST_NODE + NODE_WORDS].to_vec(),
+    };
+    (number, Some(left))
+}
+
+/// What is said of a cut after so many stores; the image has to bear it out.
+fn sentence(kind: &Kind, left: &Left, untouched: &Left, stores: u32, number: u32) -> &'static str {
+    if 0 < stores && stores < number {
+        assert!(!left.on && left.secret_zero && left.outcome == 3);
+        return "attestation is off and the secret is erased, for good: no list is shown as whole";
+    }
+    let shown = (kind.shown)(left, untouched);
+    if stores == number {
+        assert!(shown, "{}: a counted work must show", kind.name);
+        return kind.counted;
+    }
+    assert!(
+        left == untouched,
+        "{}: an unstarted work must not show",
+        kind.name
+    );
+    kind.lost
+}
+
+/// The rows of one kind: cuts that leave the same are one row.
+fn rows(kind: &Kind) -> Vec<String> {
+    let (number, _) = run(kind, None);
+    let untouched = run(kind, Some(0)).1.expect("a run");
+    let mut rows: Vec<(u32, u32, String)> = Vec::new();
+    for stores in 0..=number {
+        let left = run(kind, Some(stores)).1.expect("a run");
+        let text = sentence(kind, &left, &untouched, stores, number);
+        let attestation = if left.on { "on" } else { "off" };
+        let cell = format!("{attestation} | {text}");
+        match rows.last_mut() {
+            Some(last) if last.2 == cell => last.1 = stores,
+            _ => rows.push((stores, stores, cell)),
+        }
+    }
+    rows.into_iter()
+        .map(|(from, to, cell)| {
+            let stores = match (from, to) {
+                (0, 0) => "before the first store".to_string(),
+                (from, to) if from == to && to == number => format!("after store {to}, the last"),
+                (from, to) if from == to => format!("after store {to}"),
+                (0, to) if to == number => format!("before the first and after any of {to} stores"),
+                (from, to) => format!("after store {from} to {to}"),
+            };
+            format!("| {} | {stores} | {cell} |", kind.name)
+        })
+        .collect()
+}
+
+fn main() {
+    println!("| What the unit was doing | The power is cut | Attestation after the next update boot | What is lost |");
+    println!("|---|---|---|---|");
+    for kind in kinds() {
+        for row in rows(&kind) {
+            println!("{row}");
+        }
+    }
+}

@@ -1,0 +1,122 @@
+//! A client of the program target/bin/driver: scripts of operations, and what
+//! each of them wrote.
+
+use crate::shell::{built_program, run, Feed};
+
+/// Operations, and how to read what they write.
+#[derive(Clone, Default)]
+pub struct Script {
+    bytes: Vec<u8>,
+}
+
+/// What the driver wrote, read from the front.
+pub struct Replies {
+    bytes: Vec<u8>,
+    at: usize,
+}
+
+fn put_field(bytes: &mut Vec<u8>, field: &[u8]) {
+    let length = u16::try_from(field.len()).expect("a field of at most 65,535 bytes");
+    bytes.extend(length.to_le_bytes());
+    bytes.extend(field);
+}
+
+impl Script {
+    pub fn new() -> Self {
+        Self::default()
+    }
+
+    pub fn cold_boot(mut self, digest: &[u8], secret: &[u8]) -> Self {
+        self.bytes.push(b'C');
+        put_field(&mut self.bytes, digest);
+        put_field(&mut self.bytes, secret);
+        self
+    }
+
+    pub fn update_boot(mut self, digest: &[u8], secret: &[u8], verdict: bool) -> Self {
+        self.bytes.push(b'U');
+        put_field(&mut self.bytes, digest);
+        put_field(&mut self.bytes, secret);
+        self.bytes.push(u8::from(verdict));
+        self
+    }
+
+    /// A request of caller 7 with verdict yes and no handoff table; its
+    /// checksum is put in front of the arguments.
+    pub fn request(mut self, code: u32, arguments: &[u8]) -> Self {
+        let sum = reference::checksum::checksum(code, arguments);
+        let mut request = sum.to_le_bytes().to_vec();
+        request.extend(arguments);
+        self.bytes.push(b'R');
+        self.bytes.extend(code.to_le_bytes());
+        self.bytes.extend(7u32.to_le_bytes());
+        self.bytes.push(1);
+        put_field(&mut self.bytes, &[]);
+        put_field(&mut self.bytes, &request);
+        self
+    }
+
+    pub fn stores(mut self, count: u32) -> Self {
+        self.bytes.push(b'S');
+        self.bytes.extend(count.to_le_bytes());
+        self
+    }
+
+    pub fn cut(mut self) -> Self {
+        self.bytes.push(b'X');
+        self
+    }
+
+    pub fn image(mut self) -> Self {
+        self.bytes.push(b'D');
+        self
+    }
+
+    /// Runs the driver on the script.
+    pub fn run(&self) -> Replies {
+        let output = run(&built_program("driver"), &self.bytes, Feed::Whole);
+        assert!(output.status.success(), "{}", output.status);
+        Replies {
+            bytes: output.stdout,
+            at: 0,
+        }
+    }
+}
+
+impl Replies {
+    pub fn u8(&mut self) -> u8 {
+        self.at += 1;
+        self.bytes[self.at - 1]
+    }
+
+    pub fn u32(&mut self) -> u32 {
+        self.at += 4;
+        let field = self.bytes[self.at - 4..self.at]
+            .try_into()
+            .expect("4 bytes");
+        u32::from_le_bytes(field)
+    }
+
+    /// An accepted boot's outcome and stores left.
+    pub fn boot(&mut self) -> (u8, u32) {
+        assert_eq!(self.u32(), 0, "the boot was refused");
+        (self.u8(), self.u32())
+    }
+
+    /// An accepted request's stores left.
+    pub fn request(&mut self) -> u32 {
+        assert_eq!(self.u32(), 0, "the request was refused");
+        self.u32()
+    }
+
+    /// How many stores were made.
+    pub fn stores(&mut self) -> u32 {
+        let made = self.u32();
+        self.u32();
+        made
+    }
+
+    pub fn image(&mut self) -> Vec<u32> {
+        (0..self.u32()).map(|_| self.u32()).collect()
+    }
+}
