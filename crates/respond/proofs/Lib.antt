@@ -1,0 +1,6 @@
+-- Laws that belong to no one function.
+pub mod After
+pub mod Cold
+pub mod Input
+pub mod Ready
+pub mod Output

@@ -1,0 +1,2 @@
+-- The small program of document 01.
+pub mod Program

@@ -1,0 +1,65 @@
+-- The small program of document 01, from the bytes on standard input to those it writes. "A small program reads a code (4 bytes, little endian) and a
+-- request from standard input, runs it on an image cold booted with 48 bytes 0x11 and secret 48 bytes 0x22, caller 0, verdict no, no handoff table, and
+-- writes the result (4 bytes, little endian) and the answer; a refused request writes the result only. Fewer than 4 input bytes count as code 0; of a
+-- longer input only the first 65,000 bytes are used." Assumes nothing.
+use Prim.Native.Nat.{ℕ, zero, suc, _+_, _-_}
+use mathlib.Core.Bool.{false, cond}
+use mathlib.Core.List.{List, [], _++_}
+use lib.Dec.{ltb}
+use lib.ListN.{length, take, drop, replicate}
+use Rattle.layout.specs.Sizes.{imageWords, answerMax}
+use Rattle.layout.specs.Words.{zeros, le32, bytes4}
+use Rattle.work.specs.Entries.{leftOf, storeResult, storeImage}
+use Rattle.work.specs.declared.Work.{Work}
+use Rattle.opening.specs.Tasks.{Request, requestOf}
+use Rattle.opening.specs.Openings.{openColdBoot, openRequest, statusNumber}
+use Rattle.opening.specs.declared.Status.{Status}
+use Rattle.opening.specs.declared.Status.the-variants as status
+use Rattle.opening.specs.declared.Opened.{Opened}
+use Rattle.history.specs.Calls.{storeAll}
+use Rattle.respond.specs.declared.Response.{Response}
+
+-- a work after n stores on an image, each by the store entry; the image after them is `storeAll`'s
+unfoldable pub workAfter : ℕ → Work → List ℕ → Work
+workAfter zero w image = w
+workAfter (suc n) w image = workAfter n (storeResult w image .work) (storeImage w image)
+
+-- "an image cold booted with 48 bytes 0x11 and secret 48 bytes 0x22": all stores of that boot, on an image of zero words
+unfoldable pub coldImage : List ℕ
+coldImage =
+    let w = openColdBoot (zeros imageWords) (replicate 48 0x11) (replicate 48 0x22) .work in
+    storeAll (leftOf w) w (zeros imageWords)
+
+-- "a code (4 bytes, little endian) and a request", "Fewer than 4 input bytes count as code 0", "caller 0, verdict no, no handoff table". The request is
+-- what follows the first 4 bytes.
+unfoldable pub requestIn : List ℕ → Request
+requestIn input = requestOf (cond (ltb (length input) 4) 0 (le32 input 0)) (drop 4 input) 0 [] false
+
+-- "and the answer; a refused request writes the result only"
+abbrev pub answerIn : Work → Status → List ℕ
+answerIn w status.Ready = take (w .«answer_len») (w .answer)
+answerIn w (status.Refused n) = []
+
+-- "writes the result (4 bytes, little endian) and the answer"
+unfoldable pub written : Opened → List ℕ
+written o = bytes4 (statusNumber (o .status)) ++ answerIn (o .work) (o .status)
+
+-- the output for an input of which all bytes are used. The stores of the request's own work change the image and not the answer, which is the work's from
+-- its opening on; so no output shows them.
+unfoldable pub outputOf : List ℕ → List ℕ
+outputOf input = written (openRequest coldImage (requestIn input))
+
+-- "of a longer input only the first 65,000 bytes are used"; the code's 4 are among them
+abbrev pub inputMax : ℕ
+inputMax = 65000
+
+unfoldable pub programOutput : List ℕ → List ℕ
+programOutput input = outputOf (take inputMax input)
+
+-- the result and the longest answer
+abbrev pub responseMax : ℕ
+responseMax = 4 + answerMax
+
+-- an output as the function hands it back: how many bytes, and the bytes in an array whose others are zero
+unfoldable pub responseOf : List ℕ → Response
+responseOf output = record { len = length output; bytes = output ++ zeros (responseMax - length output) }

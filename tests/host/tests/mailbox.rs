@@ -1,0 +1,316 @@
+//! The program target/bin/mailbox: what it writes for what it reads, and how much it reads.
+
+use std::fs::{self, File};
+use std::io::{Read, Seek, Write};
+use std::process::{Child, Command, Stdio};
+use std::thread::sleep;
+use std::time::{Duration, Instant};
+
+use host::random::Random;
+use host::shell::{built_program, hex, run, Feed};
+
+/// The bytes of an input that are used.
+const USED: usize = 65_000;
+
+const UNKNOWN_CODE: [u8; 4] = [3, 0, 0, 0];
+const WRONG_LENGTH: [u8; 4] = [4, 0, 0, 0];
+const HANDOFF_WRONG: [u8; 4] = [5, 0, 0, 0];
+/// 0x4243484B, lowest byte first.
+const BAD_CHECKSUM: [u8; 4] = *b"KHCB";
+/// 0x42534947, lowest byte first.
+const VERDICT_NO: [u8; 4] = *b"GISB";
+
+/// Command codes, lowest byte first.
+const STASH: [u8; 4] = *b"SAEM";
+const DISABLE: [u8; 4] = *b"LBSD";
+const IDENTITY_KEY: [u8; 4] = *b"IEDI";
+const VERIFY: [u8; 4] = *b"VGIS";
+
+/// Card 10.
+const CARD_10: [u8; 8] = [0x4C, 0x42, 0x53, 0x44, 0xDB, 0xFE, 0xFF, 0xFF];
+const CARD_10_OUTPUT: [u8; 12] = [0, 0, 0, 0, 0xDB, 0xFE, 0xFF, 0xFF, 0, 0, 0, 0];
+
+/// What every accepted stash writes: result 0, and the answer with dpe result 0.
+const STASHED: [u8; 16] = [
+    0, 0, 0, 0, 0xDA, 0xFE, 0xFF, 0xFF, 0, 0, 0, 0, 0, 0, 0, 0,
+];
+
+/// Code, checksum and the bytes after it.
+fn request(code: [u8; 4], checksum: u32, rest: &[u8]) -> Vec<u8> {
+    [&code[..], &checksum.to_le_bytes(), rest].concat()
+}
+
+/// The same with the right checksum.
+fn sealed(code: [u8; 4], rest: &[u8]) -> Vec<u8> {
+    let checksum = reference::checksum::checksum(u32::from_le_bytes(code), rest);
+    request(code, checksum, rest)
+}
+
+/// The program's whole output is `expected`, with no message and status 0.
+fn fed(input: &[u8], expected: &[u8], feed: Feed) {
+    let output = run(&built_program("mailbox"), input, feed);
+    assert_eq!(hex(&output.stdout), hex(expected));
+    assert_eq!(String::from_utf8_lossy(&output.stderr), "");
+    assert!(output.status.success(), "{}", output.status);
+}
+
+fn writes(input: &[u8], expected: &[u8]) {
+    fed(input, expected, Feed::Whole);
+}
+
+// ---- the result and the answer
+
+#[test]
+fn card_10() {
+    writes(&CARD_10, &CARD_10_OUTPUT);
+}
+
+#[test]
+fn no_input_is_code_0() {
+    writes(&[], &UNKNOWN_CODE);
+}
+
+#[test]
+fn fewer_than_4_bytes_are_code_0() {
+    for count in 1..4 {
+        writes(&DISABLE[..count], &UNKNOWN_CODE);
+        writes(&[0xFF; 3][..count], &UNKNOWN_CODE);
+    }
+}
+
+#[test]
+fn code_alone_has_an_empty_request() {
+    writes(&DISABLE, &WRONG_LENGTH);
+}
+
+#[test]
+fn code_is_little_endian() {
+    let mut code = DISABLE;
+    code.reverse();
+    writes(&sealed(code, &[]), &UNKNOWN_CODE);
+}
+
+#[test]
+fn request_one_byte_too_short() {
+    writes(&CARD_10[..7], &WRONG_LENGTH);
+}
+
+#[test]
+fn request_one_byte_too_long() {
+    writes(&sealed(DISABLE, &[0]), &WRONG_LENGTH);
+}
+
+#[test]
+fn identity_key_has_no_handoff_table() {
+    let input = request(IDENTITY_KEY, 0xFFFF_FEE5, &[]);
+    assert_eq!(hex(&input), "49454449e5feffff");
+    writes(&input, &HANDOFF_WRONG);
+}
+
+#[test]
+fn verify_has_verdict_no() {
+    let input = request(VERIFY, 0xFFFF_FEC7, &[0; 192]);
+    assert_eq!(hex(&input[..8]), "56474953c7feffff");
+    writes(&input, &VERDICT_NO);
+}
+
+#[test]
+fn disable_with_checksum_0() {
+    writes(&request(DISABLE, 0, &[]), &BAD_CHECKSUM);
+}
+
+#[test]
+fn stash_of_zero_bytes() {
+    let input = request(STASH, 0xFFFF_FEDA, &[0; 56]);
+    assert_eq!(hex(&input[..8]), "5341454ddafeffff");
+    writes(&input, &STASHED);
+}
+
+#[test]
+fn stash_of_any_bytes() {
+    let mut random = Random::from_seed(1);
+    for _ in 0..20 {
+        writes(&sealed(STASH, &random.bytes(56)), &STASHED);
+    }
+}
+
+#[test]
+fn stash_with_one_bit_changed() {
+    let mut random = Random::from_seed(2);
+    for _ in 0..20 {
+        let mut input = sealed(STASH, &random.bytes(56));
+        let at = random.between(4, input.len() - 1);
+        input[at] ^= 1 << random.between(0, 7);
+        writes(&input, &BAD_CHECKSUM);
+    }
+}
+
+#[test]
+fn each_run_starts_from_the_cold_boot() {
+    let stash = sealed(STASH, &[7; 56]);
+    for _ in 0..3 {
+        writes(&CARD_10, &CARD_10_OUTPUT);
+        writes(&stash, &STASHED);
+    }
+}
+
+// ---- short reads
+
+#[test]
+fn card_10_byte_by_byte() {
+    fed(&CARD_10, &CARD_10_OUTPUT, Feed::Pieces(1));
+}
+
+#[test]
+fn stash_in_pieces() {
+    fed(&sealed(STASH, &[9; 56]), &STASHED, Feed::Pieces(7));
+}
+
+#[test]
+fn stash_with_long_pauses() {
+    let input = sealed(STASH, &[9; 56]);
+    let mut program = started(Stdio::piped());
+    let mut pipe = program.child.stdin.take().expect("a pipe");
+    for piece in [&input[..2], &input[2..7], &input[7..40], &input[40..]] {
+        sleep(Duration::from_millis(100));
+        assert!(program.is_running(), "it ended before its input did");
+        pipe.write_all(piece).expect("the pipe takes the input");
+    }
+    drop(pipe);
+    assert_eq!(hex(&program.output()), hex(&STASHED));
+}
+
+#[test]
+fn long_input_in_pieces() {
+    fed(&long_input(USED + 1), &WRONG_LENGTH, Feed::Pieces(4_000));
+}
+
+// ---- long inputs
+
+/// A disable command of that many bytes: too long, with the right checksum.
+fn long_input(length: usize) -> Vec<u8> {
+    let input = sealed(DISABLE, &vec![0xA5; length - 8]);
+    assert_eq!(input.len(), length);
+    input
+}
+
+/// A running program that is killed when the value goes.
+struct Program {
+    child: Child,
+}
+
+fn started(stdin: Stdio) -> Program {
+    let child = Command::new(built_program("mailbox"))
+        .stdin(stdin)
+        .stdout(Stdio::piped())
+        .spawn()
+        .expect("the program starts");
+    Program { child }
+}
+
+impl Program {
+    fn is_running(&mut self) -> bool {
+        self.child.try_wait().expect("its status is known").is_none()
+    }
+
+    /// What it has written, once it has ended; it may not go on for ever.
+    fn output(&mut self) -> Vec<u8> {
+        let begun = Instant::now();
+        while self.is_running() {
+            assert!(begun.elapsed() < Duration::from_secs(30), "it does not end");
+            sleep(Duration::from_millis(5));
+        }
+        assert!(self.child.wait().expect("it has ended").success());
+        let mut bytes = Vec::new();
+        let mut pipe = self.child.stdout.take().expect("a pipe");
+        pipe.read_to_end(&mut bytes).expect("its output is read");
+        bytes
+    }
+}
+
+impl Drop for Program {
+    fn drop(&mut self) {
+        // Both fail where it has ended, as it should.
+        let _ = self.child.kill();
+        let _ = self.child.wait();
+    }
+}
+
+/// Runs the program on a file of that many bytes, and tells how many it read.
+fn bytes_read(length: usize, label: &str) -> u64 {
+    let name = format!("waggleloft-{label}-{}", std::process::id());
+    let path = std::env::temp_dir().join(name);
+    fs::write(&path, long_input(length)).expect("the temporary folder is writable");
+    let mut file = File::open(&path).expect("the file is there");
+    fs::remove_file(&path).expect("the file can go");
+    // The program's standard input shares this file's position.
+    let shared = file.try_clone().expect("a second handle");
+    let output = started(Stdio::from(shared)).output();
+    assert_eq!(hex(&output), hex(&WRONG_LENGTH));
+    file.stream_position().expect("a position")
+}
+
+#[test]
+fn reads_all_of_64_999_bytes() {
+    assert_eq!(bytes_read(64_999, "mailbox-64999"), 64_999);
+}
+
+#[test]
+fn reads_all_of_65_000_bytes() {
+    assert_eq!(bytes_read(65_000, "mailbox-65000"), 65_000);
+}
+
+#[test]
+fn reads_65_000_of_65_001_bytes() {
+    assert_eq!(bytes_read(65_001, "mailbox-65001"), 65_000);
+}
+
+#[test]
+fn reads_65_000_of_70_000_bytes() {
+    assert_eq!(bytes_read(70_000, "mailbox-70000"), 65_000);
+}
+
+#[test]
+fn long_inputs_through_a_pipe() {
+    for length in [64_999, 65_000, 65_001, 70_000] {
+        writes(&long_input(length), &WRONG_LENGTH);
+    }
+}
+
+/// It waits for byte 65,000 and for no more, though the pipe stays open.
+#[test]
+fn ends_with_byte_65_000() {
+    let input = long_input(USED);
+    let mut program = started(Stdio::piped());
+    let mut pipe = program.child.stdin.take().expect("a pipe");
+    pipe.write_all(&input[..USED - 1]).expect("the pipe takes the input");
+    sleep(Duration::from_millis(300));
+    assert!(program.is_running(), "it ended before byte 65,000");
+    pipe.write_all(&input[USED - 1..]).expect("the pipe takes the input");
+    assert_eq!(hex(&program.output()), hex(&WRONG_LENGTH));
+}
+
+/// A writer that never ends, killed when the value goes.
+struct EndlessWriter(Child);
+
+impl Drop for EndlessWriter {
+    fn drop(&mut self) {
+        // It may have ended by itself, since nobody reads its pipe any more.
+        let _ = self.0.kill();
+        let _ = self.0.wait();
+    }
+}
+
+#[test]
+fn endless_input_ends() {
+    let mut writer = EndlessWriter(
+        Command::new("sh")
+            .args(["-c", "printf LBSD && exec cat /dev/zero"])
+            .stdout(Stdio::piped())
+            .spawn()
+            .expect("a shell"),
+    );
+    let pipe = writer.0.stdout.take().expect("a pipe");
+    let mut program = started(Stdio::from(pipe));
+    assert_eq!(hex(&program.output()), hex(&WRONG_LENGTH));
+}
