@@ -2,7 +2,6 @@
 // in hand, the report.
 ghost use mathlib.Core.Path.{_≡_};
 ghost use Rattle.opening.specs.Tasks.{requestOf};
-ghost use Rattle.opening.specs.Openings.{statusNumber, bootNumber};
 ghost use Rattle.history.specs.Calls.{step, request, updateBoot, store, powerCut};
 ghost use Rattle.machine.specs.Call.{machineOf, handOf, resultOf};
 use crate::InHand;
@@ -11,26 +10,9 @@ use crate::Report;
 use boot::update::open_update_boot;
 use opening::BootStatus;
 use opening::Status;
+use opening::works::boot_number;
+use opening::works::number_of;
 use request::open::open_request;
-
-// The number of a request's opening: 0 where it is ready.
-fn number_of(status: Status) -> u32
-    ensures { λ r. ⌜ r ≡ statusNumber status ⌝ }
-{
-    match status {
-        Status::Ready => 0,
-        Status::Refused(number) => number,
-    }
-}
-
-fn boot_number(status: BootStatus) -> u32
-    ensures { λ r. ⌜ r ≡ bootNumber status ⌝ }
-{
-    match status {
-        BootStatus::Ready(_) => 0,
-        BootStatus::Refused(number) => number,
-    }
-}
 
 // Opens a request: an accepted one's work becomes the one in hand.
 pub fn request_call(

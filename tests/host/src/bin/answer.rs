@@ -192,7 +192,7 @@ fn rows(kind: &Kind) -> Vec<String> {
 }
 
 fn main() {
-    println!("| What the unit was doing | The power is cut | Attestation after the next update boot | What is lost |");
+    println!("| What the unit was doing | The power is cut | Attestation after the next update boot | What you then have |");
     println!("|---|---|---|---|");
     for kind in kinds() {
         for row in rows(&kind) {

@@ -1,0 +1,103 @@
+use native.Mathlib.Omega.{arith}
+use mathlib.Core.Path.{sym}
+use lib.Seq.{length-take-le}
+use borrow.Author.Needs.{needs}
+use Rattle.driver.proofs.calls.request.Statement.{statement}
+use Rattle.driver.proofs.calls.request.Tie as tie
+
+add-two-strings : tie.Need-add-two-strings
+add-two-strings c = search needs
+
+two-strings-requires : tie.Need-two-strings-requires
+two-strings-requires c κs = search needs
+
+stopped-requires : tie.Need-stopped-requires
+stopped-requires c κs = search needs
+
+returns : tie.Need-returns
+returns c = search needs
+
+slice-relend-prefix-call : tie.Need-slice-relend-prefix-call
+slice-relend-prefix-call c = search needs
+
+slice-aggregate-call : tie.Need-slice-aggregate-call
+slice-aggregate-call c = sym (length-take-le _ (c .before .before .before .before .before .before .args .memory .now) (omega arith))
+
+add-read32 : tie.Need-add-read32
+add-read32 c = search needs
+
+read32-requires : tie.Need-read32-requires
+read32-requires c κs = search needs
+
+sub-call : tie.Need-sub-call
+sub-call c = search needs
+
+part-call-start : tie.Need-part-call-start
+part-call-start c = search needs
+
+part-call-end : tie.Need-part-call-end
+part-call-end c = search needs
+
+add-read32-2 : tie.Need-add-read32-2
+add-read32-2 c = search needs
+
+read32-requires-2 : tie.Need-read32-requires-2
+read32-requires-2 c κs = search needs
+
+sub-call-2 : tie.Need-sub-call-2
+sub-call-2 c = search needs
+
+part-call-start-2 : tie.Need-part-call-start-2
+part-call-start-2 c = search needs
+
+part-call-end-2 : tie.Need-part-call-end-2
+part-call-end-2 c = search needs
+
+byte-requires : tie.Need-byte-requires
+byte-requires c κs = search needs
+
+slice-aggregate-call-2 : tie.Need-slice-aggregate-call-2
+slice-aggregate-call-2 c = search needs
+
+slice-aggregate-call-3 : tie.Need-slice-aggregate-call-3
+slice-aggregate-call-3 c = search needs
+
+call-requires : tie.Need-call-requires
+call-requires c κs = search needs
+
+put-opening-requires : tie.Need-put-opening-requires
+put-opening-requires c κs = search needs
+
+same-length : tie.Need-same-length
+same-length c = search needs
+
+returns-2 : tie.Need-returns-2
+returns-2 c = record { further = omega (arith, c .before .before .before .before .before .before .before .before .before .before .before .before .before .before .before .two-strings .ensures); lent = c .before .before .before .before .before .before .before .before .before .before .before .before .before .before .before .before .before .before .pre .lent }
+
+pub request-spec : {M : Type 1} → statement M
+request-spec =
+    tie.close
+    (tie.spec
+    add-two-strings
+    two-strings-requires
+    stopped-requires
+    returns
+    slice-relend-prefix-call
+    slice-aggregate-call
+    add-read32
+    read32-requires
+    sub-call
+    part-call-start
+    part-call-end
+    add-read32-2
+    read32-requires-2
+    sub-call-2
+    part-call-start-2
+    part-call-end-2
+    byte-requires
+    slice-aggregate-call-2
+    slice-aggregate-call-3
+    call-requires
+    put-opening-requires
+    same-length
+    returns-2)

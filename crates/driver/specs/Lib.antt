@@ -1,0 +1,2 @@
+-- What the steps of a run keep.
+pub mod Run

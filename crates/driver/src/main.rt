@@ -1,0 +1,67 @@
+// Lends one memory image to the engine, makes the operations that stand on standard input, and writes
+// what each gave to standard output.
+//
+// An operation is a letter and its arguments; numbers are little endian, and a byte string stands
+// after its length (u16). The run ends at the end of the input, at an unknown letter, at an operation
+// that the input cuts short and at an image of more than 4,096 words.
+mod calls;
+mod input;
+mod output;
+mod parts;
+mod state;
+
+ghost use mathlib.Core.Path.{_≡_};
+ghost use Prim.Native.Nat.{_≤_};
+ghost use lib.ListN.{length};
+ghost use Rattle.driver.specs.Run.{Ready, Moved};
+use crate::state::State;
+use crate::state::start;
+use crate::state::stopped;
+use libc::STDIN_FILENO;
+
+// One operation.
+fn operation(input: &[u8], memory: &mut [u32], state: State) -> State
+    requires { ⌜ Ready (now input) (now memory) state ⌝ }
+    ensures { λ r. ⌜ Moved state r ⌝ }
+{
+    let at = state.at;
+    let letter = input[at];
+    match letter {
+        b'I' => parts::lend(input, memory, state),
+        b'C' => calls::cold_boot(input, memory, state),
+        b'U' => calls::update_boot(input, memory, state),
+        b'R' => calls::request(input, memory, state),
+        b'S' => calls::stores(input, memory, state),
+        b'A' => parts::answer(input, state),
+        b'L' => parts::left(state),
+        b'X' => calls::cut(memory, state),
+        b'W' => parts::set(input, state),
+        b'D' => parts::dump(memory, state),
+        _ => stopped(input, state),
+    }
+}
+
+fn run(input: &[u8])
+    requires { ⌜ length (now input) ≤ 1048576 ⌝ }
+{
+    let mut memory = [0u32; 4096];
+    let mut state = start();
+    while state.at < input.len() {
+        let next = operation(input, &mut memory, state);
+        state = next;
+    }
+}
+
+// Room for the input: of a longer one only this much is used. The `ensures` gives only the length,
+// which lending it needs.
+fn room() -> [u8; 1048576]
+    ensures { λ r. ⌜ 1048576 ≡ length r ⌝ }
+{
+    [0; 1048576]
+}
+
+fn main() {
+    let mut space = room();
+    let n = io::read_full(STDIN_FILENO, &mut space);
+    run(&space[..n]);
+}

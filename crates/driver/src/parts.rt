@@ -1,0 +1,198 @@
+// The operations on the image and on the work in hand.
+ghost use mathlib.Core.Path.{_≡_};
+ghost use Prim.Native.Nat.{_+_, _*_, _<_, _≤_};
+ghost use lib.ListN.{length};
+ghost use Rattle.driver.specs.Run.{Ready, Moved};
+use crate::input::read64;
+use crate::input::string_length;
+use crate::output::put_count;
+use crate::output::put_image;
+use crate::output::put32;
+use crate::state::State;
+use crate::state::stopped;
+use layout::little_endian::read32;
+use libc::STDOUT_FILENO;
+use machine::InHand;
+use work::Kind;
+use work::StashAt;
+use work::Work;
+
+// Words of the input into the front of the memory.
+fn load(input: &[u8], from: usize, memory: &mut [u32], count: usize)
+    requires { ⌜ (from < 2097152) × (count ≤ 4096) × (length (now memory) ≡ 4096) ⌝ }
+{
+    let mut k = 0;
+    while k < count {
+        memory[k] = read32(input, from + 4 * k);
+        k += 1;
+    }
+}
+
+// Lends another image: the work in hand goes.
+pub(crate) fn lend(input: &[u8], memory: &mut [u32], state: State) -> State
+    requires { ⌜ Ready (now input) (now memory) state ⌝ }
+    ensures { λ r. ⌜ Moved state r ⌝ }
+{
+    let at = state.at;
+    let count = read32(input, at + 1) as usize;
+    if 4096 < count {
+        return stopped(input, state);
+    }
+    let end = at + 5 + 4 * count;
+    if input.len() < end {
+        return stopped(input, state);
+    }
+    load(input, at + 5, memory, count);
+    let mut hand = state.hand;
+    hand.present = false;
+    State {
+        at: end,
+        words: count,
+        hand,
+    }
+}
+
+pub(crate) fn dump(memory: &[u32], state: State) -> State
+    requires { ⌜ (state .at < 1048576) × (state .words ≤ 4096) × (length (now memory) ≡ 4096) ⌝ }
+    ensures { λ r. ⌜ Moved state r ⌝ }
+{
+    let words = state.words;
+    put_image(&memory[..words]);
+    let mut next = state;
+    next.at = state.at + 1;
+    next
+}
+
+pub(crate) fn left(state: State) -> State
+    requires { ⌜ (state .at < 1048576) × (state .words ≤ 4096) ⌝ }
+    ensures { λ r. ⌜ Moved state r ⌝ }
+{
+    let hand = state.hand;
+    if hand.present {
+        let work = hand.work;
+        put_count(work.left());
+    } else {
+        put32(0xFFFFFFFF);
+    }
+    let mut next = state;
+    next.at = state.at + 1;
+    next
+}
+
+// The answer of the work in hand into a buffer, and its number.
+fn take_answer(hand: InHand, buffer: &mut [u8]) -> u32 {
+    if !hand.present {
+        return 0xFFFFFFFF;
+    }
+    let work = hand.work;
+    let answered = work.answer(buffer);
+    answered.number
+}
+
+// A buffer for the longest answer that may be asked for. The `ensures` gives only the length, which
+// lending it needs.
+fn untouched() -> [u8; 65536]
+    ensures { λ r. ⌜ 65536 ≡ length r ⌝ }
+{
+    [0xA5; 65536]
+}
+
+pub(crate) fn answer(input: &[u8], state: State) -> State
+    requires { ⌜ (state .at < length (now input)) × (length (now input) ≤ 1048576) × (state .words ≤ 4096) ⌝ }
+    ensures { λ r. ⌜ Moved state r ⌝ }
+{
+    let at = state.at;
+    let end = at + 3;
+    if input.len() < end {
+        return stopped(input, state);
+    }
+    let size = string_length(input, at + 1);
+    let mut buffer = untouched();
+    let number = take_answer(state.hand, &mut buffer[..size]);
+    put32(number);
+    io::write_all(STDOUT_FILENO, &buffer[..size]);
+    let mut next = state;
+    next.at = end;
+    next
+}
+
+// A kind with another first index, where it has one: a stash's node, an update's root.
+fn with_first(kind: Kind, value: usize) -> Kind {
+    match kind {
+        Kind::Stash(at) => Kind::Stash(StashAt {
+            node: value,
+            holder: at.holder,
+        }),
+        Kind::Update(_) => Kind::Update(value),
+        _ => kind,
+    }
+}
+
+// A kind with another second index, where it has one: a stash's old holder.
+fn with_second(kind: Kind, value: usize) -> Kind {
+    match kind {
+        Kind::Stash(at) => Kind::Stash(StashAt {
+            node: at.node,
+            holder: value,
+        }),
+        _ => kind,
+    }
+}
+
+fn with_kind(work: Work, kind: Kind) -> Work {
+    let register = work.register;
+    let journey = work.journey;
+    let node = work.node;
+    let secret = work.secret;
+    let answer = work.answer;
+    Work {
+        kind,
+        position: work.position,
+        register,
+        journey,
+        node,
+        secret,
+        answer,
+        answer_len: work.answer_len,
+    }
+}
+
+// A work with one part set: 0 position, 1 first index, 2 second index, 3 answer length.
+fn with_part(work: Work, field: u8, value: usize) -> Work {
+    let kind = work.kind;
+    let mut changed = work;
+    match field {
+        0 => {
+            changed.position = value;
+            return changed;
+        }
+        1 => return with_kind(work, with_first(kind, value)),
+        2 => return with_kind(work, with_second(kind, value)),
+        3 => {
+            changed.answer_len = value;
+            return changed;
+        }
+        _ => return work,
+    }
+}
+
+pub(crate) fn set(input: &[u8], state: State) -> State
+    requires { ⌜ (state .at < length (now input)) × (length (now input) ≤ 1048576) × (state .words ≤ 4096) ⌝ }
+    ensures { λ r. ⌜ Moved state r ⌝ }
+{
+    let at = state.at;
+    let end = at + 10;
+    if input.len() < end {
+        return stopped(input, state);
+    }
+    let field = input[at + 1];
+    let value = read64(input, at + 2);
+    let mut hand = state.hand;
+    let work = with_part(hand.work, field, value);
+    hand.work = work;
+    State {
+        at: end,
+        words: state.words,
+        hand,
+    }
+}

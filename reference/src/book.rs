@@ -1,0 +1,467 @@
+//! The book of demand 3: what a list of calls and cuts after a cold boot comes
+//! to. Its registers and nodes are computed from the history alone.
+
+use crate::layout::*;
+use crate::opening::{Request, Stash, Task, View};
+use crate::tree::well_formed;
+use crate::wrong::Engine;
+
+/// Books that are wrong on purpose: a right engine has to disagree with them.
+#[derive(Clone, Copy, Debug, PartialEq, Eq)]
+pub enum Slip {
+    /// An update boot looks at off before the work in hand goes.
+    OffBeforeGoes,
+    /// Only a cut tears, not another opening.
+    TornByCutsOnly,
+    /// A work that has not stored yet is torn too.
+    TornUnstarted,
+    /// Nothing is ever torn.
+    NeverTorn,
+    /// The last store leaves the book unfinished.
+    StaysUnfinished,
+    /// A refused opening drops the work in hand.
+    RefusalDropsWork,
+    /// A counted disable command does not turn the book off.
+    DisableForgotten,
+    /// A counted stash is left out of the history.
+    StashForgotten,
+    /// A counted update is left out of the history.
+    UpdateForgotten,
+}
+
+impl Slip {
+    pub const ALL: [Slip; 9] = [
+        Slip::OffBeforeGoes,
+        Slip::TornByCutsOnly,
+        Slip::TornUnstarted,
+        Slip::NeverTorn,
+        Slip::StaysUnfinished,
+        Slip::RefusalDropsWork,
+        Slip::DisableForgotten,
+        Slip::StashForgotten,
+        Slip::UpdateForgotten,
+    ];
+}
+
+/// Work and its inputs.
+#[derive(Clone, Debug, PartialEq, Eq)]
+pub enum Event {
+    Cold(Boot),
+    Update(Boot),
+    DisableCommand,
+    BootDisabling,
+    Stash(Stash),
+    Nothing,
+}
+
+/// A boot's inputs.
+#[derive(Clone, Debug, PartialEq, Eq)]
+pub struct Boot {
+    pub digest: Digest,
+    pub secret: Digest,
+}
+
+impl Event {
+    fn number(&self) -> u32 {
+        match self {
+            Event::Cold(_) => 1_217,
+            Event::Update(_) => 62,
+            Event::DisableCommand | Event::BootDisabling => 15,
+            Event::Stash(_) => 53,
+            Event::Nothing => 0,
+        }
+    }
+
+    fn kind_name(&self) -> &'static str {
+        match self {
+            Event::Cold(_) => "cold boot",
+            Event::Update(_) => "update",
+            Event::DisableCommand | Event::BootDisabling => "disabling",
+            Event::Stash(_) => "stash",
+            Event::Nothing => "nothing",
+        }
+    }
+}
+
+#[derive(Clone, Debug, PartialEq, Eq)]
+struct Node {
+    /// None for the root.
+    parent: Option<usize>,
+    holds: bool,
+    current: Digest,
+    cumulative: Digest,
+    kind: u32,
+    locality: u32,
+}
+
+/// Registers and nodes.
+#[derive(Clone, Debug, PartialEq, Eq)]
+struct State {
+    registers: [Digest; REGISTERS],
+    nodes: [Option<Node>; NODES],
+}
+
+impl State {
+    fn empty() -> State {
+        State {
+            registers: [ZERO; REGISTERS],
+            nodes: std::array::from_fn(|_| None),
+        }
+    }
+
+    fn replay(history: &[Event]) -> State {
+        history.iter().fold(State::empty(), State::after)
+    }
+
+    fn after(mut self, event: &Event) -> State {
+        match event {
+            Event::Cold(Boot { digest, .. }) => {
+                let journey = extended(&ZERO, digest);
+                let mut state = State::empty();
+                state.registers[CURRENT] = journey;
+                state.registers[JOURNEY] = journey;
+                state.nodes[0] = Some(Node {
+                    parent: None,
+                    holds: true,
+                    current: journey,
+                    cumulative: extended(&ZERO, &journey),
+                    kind: RTJM,
+                    locality: 0,
+                });
+                return state;
+            }
+            Event::Update(Boot { digest, .. }) => {
+                self.registers[CURRENT] = extended(&ZERO, digest);
+                self.registers[JOURNEY] = extended(&self.registers[JOURNEY], digest);
+                let journey = self.registers[JOURNEY];
+                let root = self.nodes.iter_mut().flatten().find(|n| n.parent.is_none());
+                let root = root.expect("a counted update has a root");
+                root.current = journey;
+                root.cumulative = extended(&root.cumulative, &journey);
+            }
+            Event::Stash(stash) => {
+                self.registers[STASHED] = extended(&self.registers[STASHED], &stash.digest);
+                let holds = |node: &Option<Node>| node.as_ref().is_some_and(|node| node.holds);
+                let holder = self.nodes.iter().position(holds);
+                let holder = holder.expect("a counted stash has a holder");
+                let free = self.nodes.iter().position(Option::is_none);
+                let free = free.expect("a counted stash has a free node");
+                self.nodes[holder].as_mut().expect("it holds").holds = false;
+                self.nodes[free] = Some(Node {
+                    parent: Some(holder),
+                    holds: true,
+                    current: stash.digest,
+                    cumulative: extended(&ZERO, &stash.digest),
+                    kind: stash.kind,
+                    locality: stash.caller,
+                });
+            }
+            Event::DisableCommand | Event::BootDisabling | Event::Nothing => {}
+        }
+        self
+    }
+
+    /// Words 16 to 1215.
+    fn words(&self) -> Vec<u32> {
+        let mut words: Vec<u32> = self.registers.iter().flat_map(words_of).collect();
+        for node in &self.nodes {
+            let Some(node) = node else {
+                words.extend([0; NODE_WORDS]);
+                continue;
+            };
+            let parent = node.parent.map_or(0xFF, |index| index as u32);
+            words.extend([parent << 16 | 1, 0]);
+            words.extend([if node.holds { 0 } else { u32::MAX }; 5]);
+            words.push(if node.parent.is_none() { 1 << 31 } else { 0 });
+            words.extend(words_of(&node.current));
+            words.extend(words_of(&node.cumulative));
+            words.extend([node.kind, node.locality]);
+        }
+        words
+    }
+}
+
+/// The work in hand and how far it is.
+#[derive(Clone, Debug, PartialEq, Eq)]
+struct Hand {
+    event: Event,
+    made: u32,
+    of_boot: bool,
+}
+
+impl Hand {
+    fn left(&self) -> u32 {
+        self.event.number() - self.made
+    }
+}
+
+/// What the book says of an opening.
+#[derive(Clone, Copy, Debug, PartialEq, Eq)]
+pub struct Opened {
+    pub number: u32,
+    /// Kind and stores left, if it was accepted.
+    pub work: Option<(&'static str, u32)>,
+    pub outcome: Option<u8>,
+}
+
+/// What an image may have to show at a look.
+pub struct Look;
+
+pub struct Book {
+    history: Vec<Event>,
+    /// The fold of the history so far.
+    state: State,
+    in_hand: Option<Hand>,
+    torn: bool,
+    unfinished: bool,
+    /// Whether a look has found the unit off because of a torn work.
+    off_for_good: bool,
+    slip: Option<Slip>,
+}
+
+impl Book {
+    /// The book right after all stores of a cold boot. That work is still in
+    /// hand, finished.
+    pub fn after_cold_boot(boot: Boot, slip: Option<Slip>) -> Book {
+        let event = Event::Cold(boot);
+        Book {
+            state: State::empty().after(&event),
+            history: vec![event.clone()],
+            in_hand: Some(Hand {
+                made: event.number(),
+                event,
+                of_boot: false,
+            }),
+            torn: false,
+            unfinished: false,
+            off_for_good: false,
+            slip,
+        }
+    }
+
+    fn slips(&self, slip: Slip) -> bool {
+        self.slip == Some(slip)
+    }
+
+    fn is_off(&self) -> bool {
+        self.torn
+            || self
+                .history
+                .iter()
+                .any(|event| matches!(event, Event::DisableCommand | Event::BootDisabling))
+    }
+
+    /// The work in hand goes, by a cut or another opening.
+    fn goes(&mut self) {
+        if let Some(hand) = self.in_hand.take() {
+            let started = hand.made > 0 || self.slips(Slip::TornUnstarted);
+            if started && hand.left() > 0 && !self.slips(Slip::NeverTorn) {
+                self.torn = true;
+            }
+        }
+    }
+
+    fn goes_by_opening(&mut self) {
+        if self.slips(Slip::TornByCutsOnly) {
+            self.in_hand = None;
+        }
+        self.goes();
+    }
+
+    fn refused(&mut self, number: u32) -> Opened {
+        if self.slips(Slip::RefusalDropsWork) {
+            self.goes();
+        }
+        Opened {
+            number,
+            work: None,
+            outcome: None,
+        }
+    }
+
+    fn counts(&mut self, event: Event) {
+        let forgotten = match event {
+            Event::Stash(_) => self.slips(Slip::StashForgotten),
+            Event::Update(_) => self.slips(Slip::UpdateForgotten),
+            Event::DisableCommand => self.slips(Slip::DisableForgotten),
+            _ => false,
+        };
+        if forgotten {
+            return;
+        }
+        self.state = std::mem::replace(&mut self.state, State::empty()).after(&event);
+        self.history.push(event);
+    }
+
+    fn takes(&mut self, event: Event, of_boot: bool, outcome: Option<u8>) -> Opened {
+        self.goes_by_opening();
+        let hand = Hand {
+            event,
+            made: 0,
+            of_boot,
+        };
+        let opened = Opened {
+            number: 0,
+            work: Some((hand.event.kind_name(), hand.left())),
+            outcome,
+        };
+        self.in_hand = Some(hand);
+        opened
+    }
+
+    pub fn request(&mut self, request: Request) -> Opened {
+        let mut image = vec![0; REGISTERS_AT];
+        image.extend(self.state.words());
+        let view = View {
+            whole: true,
+            done: !self.unfinished,
+            on: !self.is_off(),
+            well_formed: well_formed(&image),
+            full: self.state.nodes.iter().all(Option::is_some),
+        };
+        match Engine::RIGHT.decide(&view, request) {
+            Err(number) => self.refused(number),
+            Ok(accepted) => {
+                let event = match accepted.task {
+                    Task::Stash(stash) => Event::Stash(stash),
+                    Task::Disable => Event::DisableCommand,
+                    Task::Nothing | Task::Overflow(_) => Event::Nothing,
+                };
+                self.takes(event, false, None)
+            }
+        }
+    }
+
+    /// An update boot, and whether it is at its end already.
+    pub fn update(
+        &mut self,
+        digest: &[u8],
+        secret: &[u8],
+        verdict: bool,
+    ) -> (Opened, Option<Look>) {
+        let Some((digest, secret)) = Engine::RIGHT.boot_inputs(digest, secret) else {
+            return (self.refused(6), None);
+        };
+        let off_before = self.is_off();
+        self.goes_by_opening();
+        let off = if self.slips(Slip::OffBeforeGoes) {
+            off_before
+        } else {
+            self.is_off()
+        };
+        if off {
+            (self.takes(Event::BootDisabling, true, Some(3)), None)
+        } else if verdict {
+            (
+                self.takes(Event::Update(Boot { digest, secret }), true, Some(2)),
+                None,
+            )
+        } else {
+            (self.takes(Event::Nothing, true, Some(1)), Some(Look))
+        }
+    }
+
+    /// A store with a work in hand: its number, and a look if it was the last
+    /// of an update boot.
+    pub fn store(&mut self) -> (u32, Option<Look>) {
+        let Some(hand) = &mut self.in_hand else {
+            return (0, None);
+        };
+        if hand.left() == 0 {
+            return (9, None);
+        }
+        hand.made += 1;
+        let last = hand.left() == 0;
+        let event = hand.event.clone();
+        let look = (last && hand.of_boot).then_some(Look);
+        self.unfinished = !last || self.slips(Slip::StaysUnfinished);
+        if last {
+            self.counts(event);
+        }
+        (0, look)
+    }
+
+    /// Whether a work was ever torn.
+    pub fn is_torn(&self) -> bool {
+        self.torn
+    }
+
+    pub fn cut(&mut self) {
+        self.goes();
+    }
+
+    /// The stores left of the work in hand.
+    pub fn left(&self) -> Option<u32> {
+        self.in_hand.as_ref().map(Hand::left)
+    }
+
+    /// Demand 3 at a look, against the image.
+    pub fn look(&mut self, _look: Look, image: &[u32]) -> Result<(), String> {
+        let on = image[ATTESTATION] == ON;
+        let secret_zero = image[SECRET..SECRET + DIGEST_WORDS].iter().all(|&w| w == 0);
+        if self.torn {
+            if on {
+                return Err("a work was torn and attestation is on".into());
+            }
+            if !secret_zero {
+                return Err("a work was torn and the secret is not zero".into());
+            }
+            self.off_for_good = true;
+        } else {
+            let disabled = self.history.contains(&Event::DisableCommand);
+            if on == disabled {
+                return Err(format!(
+                    "none was torn, a disable command has{} counted, and attestation is {}",
+                    if disabled { "" } else { " not" },
+                    if on { "on" } else { "off" },
+                ));
+            }
+        }
+        let state = State::replay(&self.history);
+        if state != self.state {
+            return Err("the book's state is not its history's".into());
+        }
+        if on {
+            // More than demand 3 asks: the secret is the last counted boot's.
+            let secret = self.history.iter().rev().find_map(|event| match event {
+                Event::Cold(boot) | Event::Update(boot) => Some(words_of(&boot.secret)),
+                _ => None,
+            });
+            if secret.is_some_and(|words| words != image[SECRET..SECRET + DIGEST_WORDS]) {
+                return Err("the secret is not the last counted boot's".into());
+            }
+            let words = state.words();
+            if let Some(i) = (0..words.len()).find(|&i| words[i] != image[REGISTERS_AT + i]) {
+                return Err(format!(
+                    "word {} is 0x{:08X} and the book has 0x{:08X}",
+                    REGISTERS_AT + i,
+                    image[REGISTERS_AT + i],
+                    words[i]
+                ));
+            }
+        }
+        Ok(())
+    }
+
+    /// At every point: the mark is the book's, and no call changes what a look
+    /// with a torn work found.
+    pub fn at_every_point(&self, image: &[u32]) -> Result<(), String> {
+        if (image[MARK] == DONE) == self.unfinished {
+            return Err(format!(
+                "the mark is {} and the book is {}",
+                image[MARK],
+                if self.unfinished {
+                    "unfinished"
+                } else {
+                    "finished"
+                },
+            ));
+        }
+        let on = image[ATTESTATION] == ON;
+        let secret_zero = image[SECRET..SECRET + DIGEST_WORDS].iter().all(|&w| w == 0);
+        if self.off_for_good && (on || !secret_zero) {
+            return Err("a later call undid the disabling after a torn work".into());
+        }
+        Ok(())
+    }
+}

@@ -1,0 +1,392 @@
+//! Runs another program on generated inputs and compares byte for byte.
+
+use crate::generate::{program_input, script, sealed, Script};
+use crate::layout::{DISABLE, IDENTITY, IMAGE_WORDS, STASH, VERIFY};
+use crate::mailbox::{mailbox, mailbox_on};
+use crate::player::{play, play_unwatched, Player};
+use crate::script::{encode, Op, INPUT_BYTES, LENT_WORDS};
+use crate::show;
+use crate::wrong::{Engine, Wrong};
+use std::fs;
+use std::io::{Read, Write};
+use std::path::{Path, PathBuf};
+use std::process::{Command, Stdio};
+use std::sync::mpsc;
+use std::thread;
+use std::time::{Duration, Instant};
+
+/// How long a program may take for one input.
+const PATIENCE: Duration = Duration::from_secs(120);
+
+/// More than any input makes a driver write.
+const OUTPUT_BYTES: u64 = 1 << 30;
+
+/// Time between two lines of progress.
+const PROGRESS: Duration = Duration::from_secs(3);
+
+/// The most runs of the other program that shrinking takes.
+const SHRINKING_RUNS: usize = 2_000;
+
+/// The most operations of a script that is shrunk.
+const SHRINKABLE: usize = 100_000;
+
+/// What a program wrote for an input; an error if it failed or did not end.
+pub fn run(program: &Path, input: &[u8]) -> Result<Vec<u8>, String> {
+    run_in_pieces(program, input, input.len().max(1))
+}
+
+/// As `run`; the input comes in pieces of so many bytes, with pauses.
+fn run_in_pieces(program: &Path, input: &[u8], piece: usize) -> Result<Vec<u8>, String> {
+    let mut child = Command::new(program)
+        .stdin(Stdio::piped())
+        .stdout(Stdio::piped())
+        .stderr(Stdio::null())
+        .spawn()
+        .map_err(|error| format!("{} does not start: {error}", program.display()))?;
+    let mut to = child.stdin.take().expect("standard input is a pipe");
+    let from = child.stdout.take().expect("standard output is a pipe");
+    let input = input.to_vec();
+    // A program that ends before its input does breaks the pipe: that is fine.
+    let writer = thread::spawn(move || {
+        for bytes in input.chunks(piece) {
+            if to.write_all(bytes).is_err() {
+                break;
+            }
+            if bytes.len() < input.len() {
+                thread::sleep(Duration::from_millis(1));
+            }
+        }
+    });
+    let (sender, receiver) = mpsc::channel();
+    let reader = thread::spawn(move || {
+        let mut output = Vec::new();
+        let read = from.take(OUTPUT_BYTES).read_to_end(&mut output);
+        drop(sender.send(read.map(|_| output)));
+    });
+    let output = receiver.recv_timeout(PATIENCE);
+    if output.is_err() {
+        drop(child.kill());
+    }
+    let status = child.wait().map_err(|error| error.to_string())?;
+    drop((writer.join(), reader.join()));
+    match output {
+        Err(_) => Err("no end within two minutes".into()),
+        Ok(Err(error)) => Err(error.to_string()),
+        Ok(Ok(_)) if !status.success() => Err(status.to_string()),
+        Ok(Ok(output)) => Ok(output),
+    }
+}
+
+/// Scripts that are played in one run of the program, an image of zeros
+/// between them.
+struct Batch {
+    seeds: Vec<u64>,
+    input: Vec<u8>,
+    expected: Vec<u8>,
+    operations: u64,
+    /// The last script ends the run.
+    closed: bool,
+}
+
+impl Batch {
+    fn new() -> Batch {
+        Batch {
+            seeds: Vec::new(),
+            input: Vec::new(),
+            expected: Vec::new(),
+            operations: 0,
+            closed: false,
+        }
+    }
+
+    fn has_room_for(&self, bytes: usize) -> bool {
+        !self.closed && self.input.len() + bytes + 8 * IMAGE_WORDS < INPUT_BYTES
+    }
+
+    fn add(&mut self, seed: u64, script: &Script) {
+        if !self.input.is_empty() {
+            Op::Image(vec![0; IMAGE_WORDS]).encode(&mut self.input);
+        }
+        let bytes = script.bytes();
+        self.seeds.push(seed);
+        self.operations += script.ops.len() as u64;
+        self.expected.extend(play(&bytes));
+        self.input.extend(bytes);
+        self.closed = !script.tail.is_empty();
+    }
+}
+
+pub struct Options {
+    pub engine: PathBuf,
+    pub from: u64,
+    pub count: u64,
+    /// Goes on past the count until so many operations are made.
+    pub operations: u64,
+    /// Where scripts that differ are kept.
+    pub keep: PathBuf,
+}
+
+/// Inputs that have no seed: longer than what is used of one, and operations
+/// of the greatest lengths.
+fn long_inputs() -> Vec<Vec<u8>> {
+    let mut inputs = Vec::new();
+    // The last byte that is used is an operation; then one is cut by the end.
+    for before in [INPUT_BYTES - 1, INPUT_BYTES - 2, INPUT_BYTES] {
+        let mut input = vec![b'X'; before];
+        input.extend_from_slice(b"LLLD");
+        inputs.push(input);
+    }
+    let mut input = vec![b'X'; INPUT_BYTES - 4];
+    input.extend(encode(&[Op::Store(1), Op::Left, Op::Dump]));
+    inputs.push(input);
+    inputs.push(encode(&longest_operations()));
+    inputs.push(Vec::new());
+    inputs
+}
+
+fn longest_operations() -> Vec<Op> {
+    let most = usize::from(u16::MAX);
+    let boot = |digest: usize, secret: usize| Op::Cold {
+        digest: vec![1; digest],
+        secret: vec![2; secret],
+    };
+    let request = |table: usize, code: u32, length: usize| Op::Request {
+        code,
+        caller: 0,
+        verdict: 1,
+        table: vec![3; table],
+        bytes: sealed(code, &vec![0xFF; length - 4]),
+    };
+    vec![
+        Op::Answer(u16::MAX),
+        boot(most, most),
+        boot(48, most),
+        boot(48, 48),
+        Op::Store(u32::MAX),
+        Op::Answer(u16::MAX),
+        request(most, DISABLE, most),
+        request(most, IDENTITY, 4),
+        request(most, STASH, 60),
+        request(4_096, VERIFY, most),
+        Op::Answer(u16::MAX),
+        Op::Store(u32::MAX),
+        Op::Answer(u16::MAX),
+        Op::Image(vec![1; LENT_WORDS]),
+        Op::Left,
+        boot(48, 48),
+        Op::Dump,
+    ]
+}
+
+/// Compares a driver with the player. False if one script differs.
+pub fn campaign(options: &Options) -> Result<bool, String> {
+    let mut scripts = 0;
+    let mut operations = 0;
+    let mut shown = Instant::now();
+    is_program(&options.engine)?;
+    for (count, input) in long_inputs().iter().enumerate() {
+        if differs(&options.engine, input) {
+            report(options, &format!("long-{count}"), input);
+            return Ok(false);
+        }
+    }
+    let mut seed = options.from;
+    let mut waiting = None;
+    while scripts < options.count || operations < options.operations {
+        let mut batch = Batch::new();
+        loop {
+            let next = waiting.take().unwrap_or_else(|| script(seed));
+            if !batch.has_room_for(next.bytes().len()) {
+                waiting = Some(next);
+                break;
+            }
+            batch.add(seed, &next);
+            seed += 1;
+            let made = scripts + batch.seeds.len() as u64;
+            if made >= options.count && operations + batch.operations >= options.operations {
+                break;
+            }
+        }
+        if run(&options.engine, &batch.input).as_ref() != Ok(&batch.expected) {
+            find_difference(options, &batch);
+            println!(
+                "{} scripts, {} operations, differences found",
+                scripts + batch.seeds.len() as u64,
+                operations + batch.operations
+            );
+            return Ok(false);
+        }
+        scripts += batch.seeds.len() as u64;
+        operations += batch.operations;
+        if shown.elapsed() > PROGRESS {
+            println!("{scripts} scripts, {operations} operations so far");
+            shown = Instant::now();
+        }
+    }
+    println!("{scripts} scripts, {operations} operations, 0 differences");
+    Ok(true)
+}
+
+fn is_program(path: &Path) -> Result<(), String> {
+    if path.is_file() {
+        return Ok(());
+    }
+    Err(format!("there is no program {}", path.display()))
+}
+
+/// Reports the first script of a batch that differs by itself, or the batch.
+fn find_difference(options: &Options, batch: &Batch) {
+    let mut found = false;
+    for &seed in &batch.seeds {
+        let bytes = script(seed).bytes();
+        if differs(&options.engine, &bytes) {
+            report(options, &seed.to_string(), &bytes);
+            found = true;
+            break;
+        }
+    }
+    if !found {
+        println!("no script of the batch differs by itself");
+        report(options, &format!("batch-{}", batch.seeds[0]), &batch.input);
+    }
+}
+
+fn differs(engine: &Path, input: &[u8]) -> bool {
+    run(engine, input) != Ok(play(input))
+}
+
+/// Keeps a script that differs, shrinks it and prints it with both outputs.
+fn report(options: &Options, name: &str, input: &[u8]) {
+    let small = shrunk(&options.engine, input);
+    println!("script {name} differs");
+    let _ = fs::create_dir_all(&options.keep);
+    for (suffix, bytes) in [("script", input), ("small.script", &small[..])] {
+        let path = options.keep.join(format!("{name}.{suffix}"));
+        match fs::write(&path, bytes) {
+            Ok(()) => println!("kept in {}", path.display()),
+            Err(error) => println!("not kept in {}: {error}", path.display()),
+        }
+    }
+    let theirs = run(&options.engine, &small);
+    let output = theirs.clone().unwrap_or_default();
+    print!("{}", show::comparison(&small, &play(&small), &output));
+    if let Err(why) = theirs {
+        println!("     the engine failed: {why}");
+    }
+}
+
+/// The script with as many operations dropped as leaves it differing.
+fn shrunk(engine: &Path, input: &[u8]) -> Vec<u8> {
+    let mut reader = crate::script::Reader::new(input);
+    let mut ops: Vec<Op> = reader.by_ref().collect();
+    let mut tail = reader.rest().to_vec();
+    let mut runs = 0;
+    let with_tail = |ops: &[Op], tail: &[u8]| {
+        let mut bytes = encode(ops);
+        bytes.extend_from_slice(tail);
+        bytes
+    };
+    if !tail.is_empty() && differs(engine, &encode(&ops)) {
+        tail.clear();
+    }
+    if ops.len() > SHRINKABLE {
+        return input.to_vec();
+    }
+    let mut piece = ops.len().div_ceil(2);
+    while piece > 0 && runs < SHRINKING_RUNS {
+        let mut at = 0;
+        while at < ops.len() && runs < SHRINKING_RUNS {
+            let mut fewer = ops.clone();
+            fewer.drain(at..(at + piece).min(ops.len()));
+            runs += 1;
+            if differs(engine, &with_tail(&fewer, &tail)) {
+                ops = fewer;
+            } else {
+                at += piece;
+            }
+        }
+        piece /= 2;
+    }
+    with_tail(&ops, &tail)
+}
+
+/// Compares the small program with ours. False if one input differs.
+pub fn mailbox_campaign(program: &Path, count: u64) -> Result<bool, String> {
+    is_program(program)?;
+    let mut shown = Instant::now();
+    for seed in 0..count {
+        let input = program_input(seed);
+        // Every fourth input comes in about twenty pieces.
+        let piece = input.len() / if seed % 4 == 3 { 20 } else { 1 };
+        let theirs = run_in_pieces(program, &input, piece.max(1));
+        let ours = mailbox(&input);
+        if theirs.as_ref() != Ok(&ours) {
+            println!(
+                "input {seed}, {} bytes: {:02x?}",
+                input.len(),
+                &input[..input.len().min(300)]
+            );
+            println!("reference: {ours:02x?}");
+            println!("program:   {theirs:02x?}");
+            return Ok(false);
+        }
+        if shown.elapsed() > PROGRESS {
+            println!("{} inputs so far", seed + 1);
+            shown = Instant::now();
+        }
+    }
+    println!("{count} inputs, 0 differences");
+    Ok(true)
+}
+
+/// How a wrong engine fares.
+pub struct Caught {
+    pub wrong: Wrong,
+    /// Scripts until the outputs differ, if they do.
+    pub scripts: Option<u64>,
+    /// Scripts until the book beside it disagrees, if it does.
+    pub book: Option<u64>,
+}
+
+/// Plays every wrong engine until it is caught, `count` scripts at most.
+pub fn wrong_engines(count: u64, mut each: impl FnMut(&Caught)) -> bool {
+    let mut scripts: Vec<(Vec<u8>, Vec<u8>)> = Vec::new();
+    let mut all = true;
+    for &wrong in Wrong::ALL {
+        let engine = Engine::wrong(wrong);
+        let mut caught = Caught {
+            wrong,
+            scripts: None,
+            book: None,
+        };
+        for seed in 0..count {
+            if wrong.is_of_program() {
+                let input = program_input(seed);
+                if mailbox_on(engine, &input) != mailbox(&input) {
+                    caught.scripts = Some(seed + 1);
+                    break;
+                }
+                continue;
+            }
+            if scripts.len() as u64 == seed {
+                let input = script(seed).bytes();
+                let output = play(&input);
+                scripts.push((input, output));
+            }
+            let (input, output) = &scripts[seed as usize];
+            if caught.book.is_none() && Player::new(engine).run(input).is_err() {
+                caught.book = Some(seed + 1);
+            }
+            if caught.scripts.is_none() && play_unwatched(engine, input) != *output {
+                caught.scripts = Some(seed + 1);
+            }
+            // The book is looked at for as long, and a little longer.
+            if caught.scripts.is_some() && (caught.book.is_some() || seed >= 200) {
+                break;
+            }
+        }
+        all &= caught.scripts.is_some();
+        each(&caught);
+    }
+    all
+}

@@ -1,0 +1,224 @@
+//! Scripts by seed. Each mixes pieces of five sorts and ends with the image.
+
+mod broken;
+mod images;
+mod lists;
+mod requests;
+mod works;
+
+pub use images::{odd_image_1, odd_image_2};
+pub use requests::{program_input, sealed};
+
+use crate::layout::*;
+use crate::random::Random;
+use crate::script::{encode, Op};
+
+/// A script grows no more once it has this many bytes.
+const ENOUGH: usize = 8_500;
+
+/// Operations, and bytes after them at which the run ends.
+pub struct Script {
+    pub ops: Vec<Op>,
+    pub tail: Vec<u8>,
+}
+
+impl Script {
+    pub fn bytes(&self) -> Vec<u8> {
+        let mut bytes = encode(&self.ops);
+        bytes.extend_from_slice(&self.tail);
+        bytes
+    }
+}
+
+/// The script of a seed.
+pub fn script(seed: u64) -> Script {
+    let mut maker = Maker::new(seed);
+    match seed % 8 {
+        0 | 1 => maker.lists(2),
+        2 => maker.long_list(),
+        3 => maker.images(3),
+        4 => maker.images(2),
+        5 => maker.requests(),
+        6 => maker.works(12),
+        _ => {}
+    }
+    while maker.size < ENOUGH && !maker.random.once_in(3) {
+        match maker.random.below(6) {
+            0 | 1 => maker.lists(1),
+            2 => maker.images(1),
+            3 => maker.requests(),
+            4 => maker.works(6),
+            _ => maker.long_list(),
+        }
+    }
+    maker.push(Op::Dump);
+    let tail = if seed % 8 == 7 {
+        maker.broken_tail()
+    } else {
+        Vec::new()
+    };
+    Script {
+        ops: maker.ops,
+        tail,
+    }
+}
+
+struct Maker {
+    random: Random,
+    seed: u64,
+    ops: Vec<Op>,
+    /// Bytes so far.
+    size: usize,
+    /// Counts interrupted works, so that their cuts go through all positions.
+    turn: u64,
+}
+
+impl Maker {
+    fn new(seed: u64) -> Maker {
+        Maker {
+            random: Random::from_seed(seed),
+            seed,
+            ops: Vec::new(),
+            size: 0,
+            turn: 0,
+        }
+    }
+
+    fn push(&mut self, op: Op) {
+        self.size += op.bytes().len();
+        self.ops.push(op);
+    }
+
+    fn digest(&mut self) -> Vec<u8> {
+        match self.random.below(12) {
+            0 => vec![0; 48],
+            1 => vec![0xFF; 48],
+            _ => self.random.bytes(48),
+        }
+    }
+
+    /// A secret that is accepted.
+    fn secret(&mut self) -> Vec<u8> {
+        match self.random.below(8) {
+            0 => {
+                let mut secret = vec![0; 48];
+                let at = self.random.pick(&[0, 1, 24, 46, 47, 47]);
+                secret[at] = self.random.between(1, 255) as u8;
+                secret
+            }
+            1 => vec![0xFF; 48],
+            _ => self.random.bytes(48),
+        }
+    }
+
+    /// A digest and a secret that are refused.
+    fn bad_boot_inputs(&mut self) -> (Vec<u8>, Vec<u8>) {
+        let length = self.random.pick(&[0, 1, 47, 49, 48 + 48, 12]);
+        match self.random.below(4) {
+            0 => (self.random.bytes(length), self.secret()),
+            1 => {
+                let mut secret = self.random.bytes(length);
+                secret.iter_mut().for_each(|byte| *byte |= 1);
+                (self.digest(), secret)
+            }
+            2 => (self.digest(), vec![0; 48]),
+            _ => (self.random.bytes(length), vec![0; length]),
+        }
+    }
+
+    fn verdict(&mut self, yes: bool) -> u8 {
+        if yes {
+            1
+        } else {
+            self.random.pick(&[0, 0, 2, 3, 128, 129, 255])
+        }
+    }
+
+    fn push_cold(&mut self) {
+        let (digest, secret) = (self.digest(), self.secret());
+        self.push(Op::Cold { digest, secret });
+    }
+
+    fn push_update(&mut self, yes: bool) {
+        let (digest, secret) = (self.digest(), self.secret());
+        let verdict = self.verdict(yes);
+        self.push(Op::Update {
+            digest,
+            secret,
+            verdict,
+        });
+    }
+
+    fn push_bad_boot(&mut self) {
+        let (digest, secret) = self.bad_boot_inputs();
+        let yes = self.random.once_in(2);
+        let verdict = self.verdict(yes);
+        if self.random.once_in(3) {
+            self.push(Op::Cold { digest, secret });
+        } else {
+            self.push(Op::Update {
+                digest,
+                secret,
+                verdict,
+            });
+        }
+    }
+
+    /// Looks without consequence: stores left, an answer, the image.
+    fn peek(&mut self) {
+        match self.random.below(6) {
+            0 | 1 => self.push(Op::Left),
+            2 | 3 => {
+                let size = self.answer_size();
+                self.push(Op::Answer(size));
+            }
+            4 => self.push(Op::Dump),
+            _ => {}
+        }
+    }
+
+    fn answer_size(&mut self) -> u16 {
+        self.random
+            .pick(&[0, 1, 4, 7, 8, 9, 11, 12, 13, 103, 104, 105, 200])
+    }
+
+    /// All stores of the work in hand, at once or in pieces.
+    fn finish(&mut self) {
+        match self.random.below(5) {
+            0 => {
+                let first = self.random.between(0, 70) as u32;
+                self.push(Op::Store(first));
+                self.push(Op::Left);
+                self.push(Op::Store(2_000));
+            }
+            1 => self.push(Op::Store(u32::MAX)),
+            _ => self.push(Op::Store(1_217)),
+        }
+    }
+
+    fn odd_word(&mut self) -> u32 {
+        let random = self.random.half();
+        self.random.pick(&[
+            0,
+            2,
+            3,
+            0x0100,
+            0x0101,
+            0x0001_0000,
+            0x0001_0001,
+            0x0100_0000,
+            0x0100_0001,
+            0x8000_0001,
+            0xFFFF_FFFF,
+            0xFFFF_FFFE,
+            random,
+        ])
+    }
+
+    /// A caller's number or a type.
+    fn word(&mut self) -> u32 {
+        let random = self.random.half();
+        self.random
+            .pick(&[random, random, random, 0, 1, RTJM, u32::MAX, 300])
+    }
+}

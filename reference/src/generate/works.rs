@@ -1,0 +1,184 @@
+//! Works whose parts are set from outside, damaged ones included.
+
+use super::Maker;
+use crate::script::Op;
+
+impl Maker {
+    pub(super) fn works(&mut self, count: usize) {
+        self.push_cold();
+        self.push(Op::Store(1_217));
+        self.push_stash();
+        self.push(Op::Store(53));
+        for _ in 0..count {
+            self.work();
+        }
+        self.push(Op::Dump);
+    }
+
+    fn work(&mut self) {
+        let (number, length) = match self.random.below(10) {
+            0..=2 => {
+                self.push_stash();
+                (53, 12)
+            }
+            3 => {
+                self.push_disable();
+                (15, 8)
+            }
+            4 | 5 => {
+                self.push_update(true);
+                (62, 0)
+            }
+            6 => {
+                self.push_cold();
+                (1_217, 0)
+            }
+            7 => {
+                self.push_update(false);
+                (0, 0)
+            }
+            8 => {
+                let table = self.good_table();
+                if self.size < super::ENOUGH {
+                    self.push_request(crate::layout::IDENTITY, &[], table, true);
+                } else {
+                    self.push_any_request();
+                }
+                (0, 104)
+            }
+            _ => {
+                self.push(Op::Cut);
+                (15, 8)
+            }
+        };
+        if self.random.once_in(3) {
+            let made = self.random.between(0, number.min(70) as usize) as u32;
+            self.push(Op::Store(made));
+        }
+        for _ in 0..self.random.between(1, 4) {
+            self.set_part(number, length);
+            self.use_work(number);
+        }
+        if self.random.once_in(2) {
+            // Mended, it is as good as before.
+            self.set(3, length);
+            let node = self.random.below(24) as u64;
+            self.set(1, node);
+            let holder = self.random.below(24) as u64;
+            self.set(2, holder);
+            let position = self.random.pick(&[0, 0, number / 2, number]);
+            self.set(0, position);
+            self.use_work(number);
+            self.finish();
+            let size = self.answer_size();
+            self.push(Op::Answer(size));
+            self.push(Op::Dump);
+        }
+        if self.random.once_in(3) {
+            let yes = self.random.once_in(2);
+            self.push_update(yes);
+            self.finish();
+        }
+        if self.random.once_in(4) {
+            self.push_cold();
+            self.push(Op::Store(1_217));
+        }
+    }
+
+    fn set(&mut self, field: u8, value: u64) {
+        self.push(Op::Set { field, value });
+    }
+
+    fn set_part(&mut self, number: u64, length: u64) {
+        let field = self.random.pick(&[0, 0, 0, 1, 1, 2, 2, 3, 3, 4, 255]);
+        let near = self.random.between(0, 65) as u64;
+        let inside = self.random.between(0, number as usize) as u64;
+        let value = match field {
+            0 => self.random.pick(&[
+                0,
+                1,
+                number.wrapping_sub(1),
+                number,
+                number + 1,
+                number + 2,
+                near,
+                inside,
+                inside,
+                13,
+                46,
+                47,
+                51,
+                1 << 32,
+                (1 << 32) + number,
+                (1 << 32) + near,
+                (1 << 63) + near,
+                u64::MAX,
+            ]),
+            1 | 2 => self.random.pick(&[
+                0,
+                1,
+                5,
+                22,
+                23,
+                23,
+                24,
+                24,
+                25,
+                255,
+                1 << 16,
+                1 << 32,
+                (1 << 32) + 5,
+                (1 << 32) + 23,
+                1 << 63,
+                u64::MAX,
+                u64::MAX / 34,
+                u64::MAX / 34 + 1,
+            ]),
+            _ => self.random.pick(&[
+                0,
+                1,
+                length,
+                length.wrapping_sub(1),
+                length + 1,
+                8,
+                103,
+                104,
+                105,
+                105,
+                106,
+                1 << 16,
+                1 << 32,
+                (1 << 32) + length,
+                (1 << 32) + 8,
+                1 << 63,
+                u64::MAX,
+            ]),
+        };
+        self.set(field, value);
+    }
+
+    fn use_work(&mut self, number: u64) {
+        self.push(Op::Left);
+        if self.random.once_in(2) {
+            let size = self.answer_size();
+            self.push(Op::Answer(size));
+        }
+        if self.random.once_in(5) {
+            // Positions decide where the image is touched: all of it is shown.
+            self.push(Op::Store(1));
+            self.push(Op::Dump);
+        }
+        if self.random.once_in(2) {
+            let count = self.random.pick(&[0, 1, 2, number as u32, 2_000]);
+            self.push(Op::Store(count));
+            self.push(Op::Left);
+        }
+        if self.random.once_in(2) {
+            let size = self.answer_size();
+            self.push(Op::Answer(size));
+        }
+        if self.random.once_in(4) {
+            self.push(Op::Dump);
+        }
+    }
+}

@@ -1,0 +1,131 @@
+//! Where everything is in the memory image and how long everything is: the
+//! table of "What the unit holds" and the numbers of "Mailbox".
+
+use crate::sha384::{digest, DIGEST_BYTES};
+
+/// Words of a digest, a register or the secret.
+pub const DIGEST_WORDS: usize = DIGEST_BYTES / 4;
+
+pub const MARK: usize = 0;
+pub const ATTESTATION: usize = 1;
+pub const SECRET: usize = 4;
+pub const REGISTERS_AT: usize = 16;
+pub const REGISTERS: usize = 32;
+pub const NODES_AT: usize = REGISTERS_AT + REGISTERS * DIGEST_WORDS;
+pub const NODES: usize = 24;
+pub const NODE_WORDS: usize = 34;
+pub const IMAGE_WORDS: usize = NODES_AT + NODES * NODE_WORDS;
+
+/// The most steps from a node to the root.
+pub const MAX_STEPS: usize = NODES - 1;
+
+/// The mark of a finished flow, and attestation that is on.
+pub const DONE: u32 = 1;
+pub const ON: u32 = 1;
+
+/// Register roles (002, table 13).
+pub const CURRENT: usize = 2;
+pub const JOURNEY: usize = 3;
+pub const STASHED: usize = 31;
+
+/// Offsets within a node.
+pub const HANDLE: usize = 2;
+pub const HANDLE_WORDS: usize = 5;
+pub const FLAGS: usize = 7;
+pub const NODE_CURRENT: usize = 8;
+pub const NODE_CUMULATIVE: usize = 20;
+pub const TYPE: usize = 32;
+pub const LOCALITY: usize = 33;
+
+pub const USED: u32 = 1;
+pub const FREE: u32 = 0;
+pub const ROOT_PARENT: u32 = 0xFF;
+pub const INTERNAL: u32 = 0x8000_0000;
+pub const RTJM: u32 = 0x4D4A_5452;
+pub const DEFAULT_HANDLE: [u32; HANDLE_WORDS] = [0; HANDLE_WORDS];
+pub const RETIRED_HANDLE: [u32; HANDLE_WORDS] = [u32::MAX; HANDLE_WORDS];
+
+pub const STASH: u32 = 0x4D45_4153;
+pub const DISABLE: u32 = 0x4453_424C;
+pub const IDENTITY: u32 = 0x4944_4549;
+pub const VERIFY: u32 = 0x5349_4756;
+
+pub const STASH_BYTES: usize = 60;
+pub const DISABLE_BYTES: usize = 4;
+pub const IDENTITY_BYTES: usize = 4;
+pub const VERIFY_BYTES: usize = 196;
+
+/// The longest answer, an identity key.
+pub const ANSWER_MAX: usize = 104;
+
+pub const TABLE_BYTES: usize = 2_048;
+pub const TABLE_MARKER: u32 = 0x5448_4643;
+pub const TABLE_MAJOR: u16 = 1;
+pub const KEY_AT: usize = 304;
+pub const KEY_BYTES: usize = 96;
+
+/// The numbers handed back.
+pub mod number {
+    pub const IMAGE: u32 = 1;
+    pub const UNFINISHED: u32 = 2;
+    pub const CODE: u32 = 3;
+    pub const LENGTH: u32 = 4;
+    pub const TABLE: u32 = 5;
+    pub const BOOT_INPUT: u32 = 6;
+    pub const STORES_LEFT: u32 = 7;
+    pub const BUFFER: u32 = 8;
+    pub const NO_STORE: u32 = 9;
+    pub const TREE: u32 = 11;
+    pub const CHECKSUM: u32 = 0x4243_484B;
+    pub const SIGNATURE: u32 = 0x4253_4947;
+}
+
+/// The results of a stash in its answer.
+pub const DPE_DONE: u32 = 0;
+pub const DPE_FULL: u32 = 1;
+pub const DPE_OFF: u32 = 2;
+
+/// A boot's outcomes.
+pub const COLD: u8 = 0;
+pub const KEPT: u8 = 1;
+pub const UPDATED: u8 = 2;
+pub const DISABLED: u8 = 3;
+
+pub type Digest = [u8; DIGEST_BYTES];
+pub type Words = [u32; DIGEST_WORDS];
+
+/// Forty-eight zero bytes.
+pub const ZERO: Digest = [0; DIGEST_BYTES];
+
+/// The first word of a register.
+pub fn register(index: usize) -> usize {
+    REGISTERS_AT + DIGEST_WORDS * index
+}
+
+/// The first word of a node.
+pub fn node(index: usize) -> usize {
+    NODES_AT + NODE_WORDS * index
+}
+
+/// Four bytes to a word, the first byte lowest.
+pub fn words_of(bytes: &Digest) -> Words {
+    std::array::from_fn(|i| little(&bytes[4 * i..]))
+}
+
+/// The bytes of twelve words.
+pub fn bytes_of(words: &[u32]) -> Digest {
+    std::array::from_fn(|i| words[i / 4].to_le_bytes()[i % 4])
+}
+
+/// The number in the first four bytes.
+pub fn little(bytes: &[u8]) -> u32 {
+    u32::from_le_bytes([bytes[0], bytes[1], bytes[2], bytes[3]])
+}
+
+/// `old` extended by `by`.
+pub fn extended(old: &Digest, by: &Digest) -> Digest {
+    let mut both = [0; 2 * DIGEST_BYTES];
+    both[..DIGEST_BYTES].copy_from_slice(old);
+    both[DIGEST_BYTES..].copy_from_slice(by);
+    digest(&both)
+}

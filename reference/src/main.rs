@@ -1,0 +1,124 @@
+//! The second program: plays scripts, makes them, and compares with others.
+
+use reference::campaign::{campaign, mailbox_campaign, wrong_engines, Options};
+use reference::wrong::{Engine, Wrong};
+use reference::{generate, mailbox, player, script, show};
+use std::io::{self, Read, Write};
+use std::path::PathBuf;
+use std::process::ExitCode;
+
+const USAGE: &str = "usage: reference COMMAND
+  play [NAME]              plays the script on standard input, on a wrong engine
+                           if one is named
+  mailbox                  the small program: code and request on standard input
+  script SEED              writes the script of a seed
+  show                     the script on standard input as text
+  campaign --engine PATH [--from A] [--count N] [--calls M] [--keep FOLDER]
+                           compares a driver on N scripts from seed A on, and on
+                           as many more as M operations take
+  mailbox-campaign --engine PATH [--count N]
+                           compares a small program on N inputs
+  wrong [--count N]        how many scripts catch each wrong engine";
+
+fn main() -> ExitCode {
+    let words: Vec<String> = std::env::args().skip(1).collect();
+    match command(&words) {
+        Ok(true) => ExitCode::SUCCESS,
+        Ok(false) => ExitCode::from(1),
+        Err(why) => {
+            eprintln!("{why}");
+            ExitCode::from(2)
+        }
+    }
+}
+
+fn command(words: &[String]) -> Result<bool, String> {
+    let (name, rest) = words.split_first().ok_or(USAGE)?;
+    match (name.as_str(), rest) {
+        ("play", []) => write(&player::play(&input(script::INPUT_BYTES)?)),
+        ("play", [name]) => {
+            let wrong = Wrong::ALL
+                .iter()
+                .find(|wrong| format!("{wrong:?}") == *name);
+            let engine = Engine::wrong(*wrong.ok_or_else(|| format!("{name} is no wrong engine"))?);
+            write(&player::play_unwatched(
+                engine,
+                &input(script::INPUT_BYTES)?,
+            ))
+        }
+        ("mailbox", []) => write(&mailbox::mailbox(&input(mailbox::INPUT_BYTES)?)),
+        ("show", []) => write(show::script(&input(script::INPUT_BYTES)?).as_bytes()),
+        ("script", [seed]) => write(&generate::script(number(seed)?).bytes()),
+        ("campaign", rest) => campaign(&Options {
+            engine: option(rest, "--engine")?.ok_or(USAGE)?.into(),
+            from: count(rest, "--from", 0)?,
+            count: count(rest, "--count", 1_000)?,
+            operations: count(rest, "--calls", 0)?,
+            keep: option(rest, "--keep")?.unwrap_or("target/campaign").into(),
+        }),
+        ("mailbox-campaign", rest) => {
+            let engine: PathBuf = option(rest, "--engine")?.ok_or(USAGE)?.into();
+            mailbox_campaign(&engine, count(rest, "--count", 200)?)
+        }
+        ("wrong", rest) => Ok(wrong(count(rest, "--count", 1_000)?)),
+        _ => Err(USAGE.into()),
+    }
+}
+
+/// At most `most` bytes of standard input.
+fn input(most: usize) -> Result<Vec<u8>, String> {
+    let mut input = Vec::new();
+    let read = io::stdin().take(most as u64).read_to_end(&mut input);
+    read.map(|_| input).map_err(|error| error.to_string())
+}
+
+fn write(output: &[u8]) -> Result<bool, String> {
+    let written = io::stdout().write_all(output);
+    written.map(|()| true).map_err(|error| error.to_string())
+}
+
+fn number(text: &str) -> Result<u64, String> {
+    text.parse().map_err(|_| format!("{text} is not a number"))
+}
+
+/// The word after `name` among words that come in pairs.
+fn option<'a>(words: &'a [String], name: &str) -> Result<Option<&'a str>, String> {
+    let known = ["--engine", "--from", "--count", "--calls", "--keep"];
+    let mut found = None;
+    for pair in words.chunks(2) {
+        let [key, value] = pair else {
+            return Err(USAGE.into());
+        };
+        if !known.contains(&key.as_str()) {
+            return Err(USAGE.into());
+        }
+        if key == name {
+            found = Some(value.as_str());
+        }
+    }
+    Ok(found)
+}
+
+fn count(words: &[String], name: &str, otherwise: u64) -> Result<u64, String> {
+    option(words, name)?.map_or(Ok(otherwise), number)
+}
+
+fn wrong(count: u64) -> bool {
+    println!("scripts  book  wrong engine");
+    let told = |scripts: Option<u64>| scripts.map_or("-".into(), |n| n.to_string());
+    let mut engines = 0;
+    let mut missed = 0;
+    wrong_engines(count, |caught| {
+        engines += 1;
+        missed += u64::from(caught.scripts.is_none());
+        println!(
+            "{:>7}  {:>4}  {:?}: {}",
+            told(caught.scripts),
+            told(caught.book),
+            caught.wrong,
+            caught.wrong.says()
+        );
+    });
+    println!("{engines} wrong engines, {missed} not caught within {count} scripts");
+    missed == 0
+}

@@ -1,0 +1,360 @@
+//! Plays a script on the engine, with the book beside it wherever a list
+//! follows a completed cold boot.
+
+use crate::book::{Book, Boot, Look, Opened, Slip};
+use crate::layout::*;
+use crate::opening::Request;
+use crate::script::{Op, Reader};
+use crate::work::{Kind, Work};
+use crate::wrong::{Engine, Wrong};
+use std::collections::BTreeSet;
+
+/// The number for a call without a work in hand.
+pub const NONE_IN_HAND: u32 = u32::MAX;
+
+/// Every byte of an answer's buffer before the call.
+pub const FILLING: u8 = 0xA5;
+
+/// What the calls of a run have come to, for the coverage test.
+#[derive(Default)]
+pub struct Seen {
+    /// The operation's letter and the number that it gave.
+    pub numbers: BTreeSet<(char, u32)>,
+    pub kinds: BTreeSet<&'static str>,
+    pub outcomes: BTreeSet<u8>,
+    pub dpe_results: BTreeSet<u32>,
+    /// Kind of the work in hand and stores made when a cut came.
+    pub cuts: BTreeSet<(&'static str, u64)>,
+    pub damaged_works: u64,
+    pub looks: u64,
+    pub looks_after_tears: u64,
+    pub operations: u64,
+}
+
+/// Whether a book is kept.
+enum Watch {
+    Nothing,
+    /// A cold boot with these inputs is in hand, all its stores so far made.
+    Booting(Boot),
+    List(Box<Book>),
+}
+
+pub struct Player {
+    engine: Engine,
+    image: Vec<u32>,
+    work: Option<Work>,
+    watch: Watch,
+    output: Vec<u8>,
+    pub seen: Seen,
+    /// What is wrong with the book, if it is so on purpose.
+    pub slip: Option<Slip>,
+}
+
+/// Plays an input to its end. A disagreement with the book is a panic.
+pub fn play(input: &[u8]) -> Vec<u8> {
+    let mut player = Player::new(Engine::RIGHT);
+    match player.run(input) {
+        Ok(()) => player.output,
+        Err(why) => panic!("the engine and the book disagree: {why}"),
+    }
+}
+
+/// Plays an input on a wrong engine, which no book looks at.
+pub fn play_unwatched(engine: Engine, input: &[u8]) -> Vec<u8> {
+    let mut player = Player::new(engine);
+    for op in Reader::new(input) {
+        player.watch = Watch::Nothing;
+        let _ = player.operate(op);
+    }
+    player.output
+}
+
+impl Player {
+    pub fn new(engine: Engine) -> Player {
+        Player {
+            engine,
+            image: vec![0; IMAGE_WORDS],
+            work: None,
+            watch: Watch::Nothing,
+            output: Vec::new(),
+            seen: Seen::default(),
+            slip: None,
+        }
+    }
+
+    /// Plays an input to its end, or to the first disagreement with the book.
+    pub fn run(&mut self, input: &[u8]) -> Result<(), String> {
+        for (count, op) in Reader::new(input).enumerate() {
+            let letter = op.bytes()[0] as char;
+            self.operate(op)
+                .map_err(|why| format!("operation {count}, {letter}: {why}"))?;
+        }
+        Ok(())
+    }
+
+    pub fn output(&self) -> &[u8] {
+        &self.output
+    }
+
+    pub fn image(&self) -> &[u32] {
+        &self.image
+    }
+
+    pub fn work(&self) -> Option<&Work> {
+        self.work.as_ref()
+    }
+
+    /// Makes one operation.
+    pub fn operate(&mut self, op: Op) -> Result<(), String> {
+        self.seen.operations += 1;
+        match op {
+            Op::Image(words) => {
+                self.image = words;
+                self.work = None;
+                self.watch = Watch::Nothing;
+            }
+            Op::Cold { digest, secret } => self.cold(&digest, &secret),
+            Op::Update {
+                digest,
+                secret,
+                verdict,
+            } => self.update(&digest, &secret, self.yes(verdict))?,
+            Op::Request {
+                code,
+                caller,
+                verdict,
+                table,
+                bytes,
+            } => self.request(Request {
+                code,
+                bytes: &bytes,
+                caller,
+                table: &table,
+                verdict: self.yes(verdict),
+            })?,
+            Op::Store(count) => self.stores(count)?,
+            Op::Answer(size) => self.answer(size)?,
+            Op::Left => self.left()?,
+            Op::Cut => {
+                if let Some(work) = self.work.take() {
+                    self.seen.cuts.insert((work.kind.name(), work.position));
+                }
+                match &mut self.watch {
+                    Watch::List(book) => book.cut(),
+                    _ => self.watch = Watch::Nothing,
+                }
+            }
+            Op::Set { field, value } => self.set(field, value),
+            Op::Dump => {
+                self.put(self.image.len() as u32);
+                for word in &self.image {
+                    self.output.extend_from_slice(&word.to_le_bytes());
+                }
+            }
+        }
+        match &self.watch {
+            Watch::List(book) => book.at_every_point(&self.image),
+            _ => Ok(()),
+        }
+    }
+
+    fn yes(&self, verdict: u8) -> bool {
+        verdict == 1 || (verdict != 0 && self.engine.has(Wrong::VerdictNonZero))
+    }
+
+    fn put(&mut self, number: u32) {
+        self.output.extend_from_slice(&number.to_le_bytes());
+    }
+
+    /// Writes what an opening gave and takes its work in hand.
+    fn opened(&mut self, letter: char, result: Result<(Work, Option<u8>), u32>) -> Opened {
+        match result {
+            Err(number) => {
+                self.put(number);
+                self.seen.numbers.insert((letter, number));
+                if self.engine.has(Wrong::RefusalDropsWork) {
+                    self.work = None;
+                }
+                Opened {
+                    number,
+                    work: None,
+                    outcome: None,
+                }
+            }
+            Ok((work, outcome)) => {
+                let left = self.engine.left(&work);
+                self.put(0);
+                self.output.extend(outcome);
+                self.put(left);
+                self.seen.numbers.insert((letter, 0));
+                self.seen.kinds.insert(work.kind.name());
+                self.seen.outcomes.extend(outcome);
+                let opened = Opened {
+                    number: 0,
+                    work: Some((work.kind.name(), left)),
+                    outcome,
+                };
+                self.work = Some(work);
+                opened
+            }
+        }
+    }
+
+    fn cold(&mut self, digest: &[u8], secret: &[u8]) {
+        let result = self.engine.open_cold(&self.image, digest, secret);
+        let opened = self.opened('C', result.map(|(work, outcome)| (work, Some(outcome))));
+        // A refused cold boot changes nothing, so a list goes on over it.
+        if opened.number == 0 {
+            let inputs = Engine::RIGHT.boot_inputs(digest, secret);
+            self.watch = inputs.map_or(Watch::Nothing, |(digest, secret)| {
+                Watch::Booting(Boot { digest, secret })
+            });
+        }
+    }
+
+    fn update(&mut self, digest: &[u8], secret: &[u8], verdict: bool) -> Result<(), String> {
+        let result = self
+            .engine
+            .open_update(&self.image, digest, secret, verdict);
+        let opened = self.opened('U', result.map(|(work, outcome)| (work, Some(outcome))));
+        let Watch::List(book) = &mut self.watch else {
+            self.watch_ends_if(opened.number == 0);
+            return Ok(());
+        };
+        let (expected, look) = book.update(digest, secret, verdict);
+        agree("update boot", &opened, &expected)?;
+        self.look(look)
+    }
+
+    fn request(&mut self, request: Request) -> Result<(), String> {
+        let result = self.engine.open_request(&self.image, request);
+        if let Ok(work) = &result {
+            if request.code == STASH {
+                self.seen.dpe_results.insert(little(&work.answer[8..]));
+            }
+        }
+        let opened = self.opened('R', result.map(|work| (work, None)));
+        let Watch::List(book) = &mut self.watch else {
+            self.watch_ends_if(opened.number == 0);
+            return Ok(());
+        };
+        agree("request", &opened, &book.request(request))
+    }
+
+    /// A cold boot that is not at its end goes when another opening is accepted.
+    fn watch_ends_if(&mut self, accepted: bool) {
+        if accepted {
+            self.watch = Watch::Nothing;
+        }
+    }
+
+    fn look(&mut self, look: Option<Look>) -> Result<(), String> {
+        let (Watch::List(book), Some(look)) = (&mut self.watch, look) else {
+            return Ok(());
+        };
+        self.seen.looks += 1;
+        self.seen.looks_after_tears += u64::from(book.is_torn());
+        book.look(look, &self.image)
+    }
+
+    fn stores(&mut self, count: u32) -> Result<(), String> {
+        let mut made = 0;
+        let mut refusal = 0;
+        while made < count && refusal == 0 {
+            let Some(work) = &mut self.work else { break };
+            refusal = self.engine.store(work, &mut self.image);
+            if refusal == 0 {
+                made += 1;
+            }
+            if let Watch::List(book) = &mut self.watch {
+                let (expected, look) = book.store();
+                if refusal != expected {
+                    return Err(format!(
+                        "a store gave {refusal} and the book says {expected}"
+                    ));
+                }
+                self.look(look)?;
+            }
+            self.start_of_list();
+        }
+        self.put(made);
+        self.put(refusal);
+        self.seen.numbers.insert(('S', refusal));
+        Ok(())
+    }
+
+    /// A list starts with the last store of a cold boot.
+    fn start_of_list(&mut self) {
+        if let (Watch::Booting(boot), Some(work)) = (&self.watch, &self.work) {
+            if self.engine.left(work) == 0 {
+                let book = Book::after_cold_boot(boot.clone(), self.slip);
+                self.watch = Watch::List(Box::new(book));
+            }
+        }
+    }
+
+    fn answer(&mut self, size: u16) -> Result<(), String> {
+        let mut buffer = vec![FILLING; usize::from(size)];
+        let number = match &self.work {
+            None => NONE_IN_HAND,
+            Some(work) => self.engine.answer(work, &mut buffer),
+        };
+        self.put(number);
+        self.output.extend_from_slice(&buffer);
+        self.seen.numbers.insert(('A', number));
+        if self.engine.has(Wrong::AnswerOnce) && number == 0 {
+            if let Some(work) = &mut self.work {
+                work.answer_bytes = 0;
+            }
+        }
+        if let Watch::List(book) = &self.watch {
+            let expected = book.left().map(|left| left > 0);
+            let found = (number != NONE_IN_HAND).then_some(number == number::STORES_LEFT);
+            if expected != found {
+                return Err(format!(
+                    "an answer gave {number} and the book has {:?} stores left",
+                    book.left()
+                ));
+            }
+        }
+        Ok(())
+    }
+
+    fn left(&mut self) -> Result<(), String> {
+        let left = self.work.as_ref().map(|work| self.engine.left(work));
+        self.put(left.unwrap_or(NONE_IN_HAND));
+        match &self.watch {
+            Watch::List(book) if book.left() != left => Err(format!(
+                "{left:?} stores are left and the book says {:?}",
+                book.left()
+            )),
+            _ => Ok(()),
+        }
+    }
+
+    fn set(&mut self, field: u8, value: u64) {
+        self.watch = Watch::Nothing;
+        let Some(work) = &mut self.work else { return };
+        match (field, &mut work.kind) {
+            (0, _) => work.position = value,
+            (1, Kind::Stash { node: index, .. } | Kind::Update { root: index }) => *index = value,
+            (2, Kind::Stash { holder, .. }) => *holder = value,
+            (3, _) => work.answer_bytes = value,
+            _ => {}
+        }
+        if self.engine.answer(work, &mut [0; ANSWER_MAX]) == number::STORES_LEFT
+            && self.engine.left(work) == 0
+        {
+            self.seen.damaged_works += 1;
+        }
+    }
+}
+
+fn agree(what: &str, found: &Opened, expected: &Opened) -> Result<(), String> {
+    if found == expected {
+        return Ok(());
+    }
+    Err(format!(
+        "{what}: the engine gave {found:?} and the book says {expected:?}"
+    ))
+}

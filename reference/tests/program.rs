@@ -1,0 +1,105 @@
+//! The binary itself: the campaign passes a right driver and shows a wrong one.
+
+use std::fs;
+use std::os::unix::fs::PermissionsExt;
+use std::path::PathBuf;
+use std::process::{Command, Output};
+
+const REFERENCE: &str = env!("CARGO_BIN_EXE_reference");
+
+fn reference(words: &[&str]) -> Output {
+    Command::new(REFERENCE)
+        .args(words)
+        .output()
+        .expect("it starts")
+}
+
+fn text(bytes: &[u8]) -> String {
+    String::from_utf8_lossy(bytes).into_owned()
+}
+
+/// A folder of its own for a test.
+fn folder(name: &str) -> PathBuf {
+    let folder = PathBuf::from(env!("CARGO_TARGET_TMPDIR")).join(name);
+    fs::create_dir_all(&folder).expect("a folder");
+    folder
+}
+
+/// A program that runs the reference with these words.
+fn program(name: &str, words: &str) -> String {
+    let path = folder(name).join("engine");
+    fs::write(&path, format!("#!/bin/sh\nexec '{REFERENCE}' {words}\n")).expect("a file");
+    fs::set_permissions(&path, fs::Permissions::from_mode(0o755)).expect("a program");
+    path.to_string_lossy().into_owned()
+}
+
+#[test]
+fn a_right_driver_passes() {
+    let engine = program("right", "play");
+    let output = reference(&[
+        "campaign", "--engine", &engine, "--from", "8", "--count", "100",
+    ]);
+    let last = text(&output.stdout)
+        .lines()
+        .last()
+        .unwrap_or("")
+        .to_string();
+    assert!(last.starts_with("100 scripts, "), "{last}");
+    assert!(last.ends_with(" operations, 0 differences"), "{last}");
+    assert!(output.status.success());
+}
+
+#[test]
+fn a_wrong_driver_is_shown_in_few_operations() {
+    let engine = program("wrong", "play MarkBeforeHandles");
+    let keep = folder("wrong").to_string_lossy().into_owned();
+    let words = [
+        "campaign", "--engine", &engine, "--count", "64", "--keep", &keep,
+    ];
+    let output = reference(&words);
+    let shown = text(&output.stdout);
+    assert_eq!(output.status.code(), Some(1), "{shown}");
+    assert!(shown.contains("!! "), "{shown}");
+    assert!(shown.contains(".small.script"), "{shown}");
+    assert!(shown.lines().count() < 30, "{shown}");
+}
+
+#[test]
+fn a_driver_that_fails_is_a_difference() {
+    let folder = folder("fails");
+    let path = folder.join("engine");
+    fs::write(&path, "#!/bin/sh\nexit 3\n").expect("a file");
+    fs::set_permissions(&path, fs::Permissions::from_mode(0o755)).expect("a program");
+    let path = path.to_string_lossy().into_owned();
+    let output = reference(&["mailbox-campaign", "--engine", &path, "--count", "3"]);
+    assert_eq!(output.status.code(), Some(1));
+    let output = reference(&["campaign", "--engine", &path, "--count", "3"]);
+    assert_eq!(output.status.code(), Some(1));
+    let output = reference(&["campaign", "--engine", "no/such/program"]);
+    assert_eq!(output.status.code(), Some(2));
+}
+
+#[test]
+fn the_small_program_passes() {
+    let engine = program("mailbox", "mailbox");
+    let output = reference(&["mailbox-campaign", "--engine", &engine, "--count", "60"]);
+    assert_eq!(
+        text(&output.stdout).lines().last(),
+        Some("60 inputs, 0 differences")
+    );
+    assert!(output.status.success());
+}
+
+#[test]
+fn wrong_words_are_refused() {
+    for words in [
+        &[][..],
+        &["campaign"],
+        &["campaign", "--engine"],
+        &["script", "x"],
+        &["play", "NoSuchEngine"],
+        &["wrong", "--size", "3"],
+    ] {
+        assert_eq!(reference(words).status.code(), Some(2), "{words:?}");
+    }
+}
