@@ -2,7 +2,7 @@
 ghost use mathlib.Core.Path.{_≡_};
 ghost use Prim.Native.Nat.{_<_, _≤_};
 ghost use lib.ListN.{length};
-ghost use Rattle.driver.specs.Run.{Ready, Moved};
+ghost use Rattle.driver.specs.Run.{memoryWords, Ready, Moved};
 use crate::input::two_strings;
 use crate::output::put_opening;
 use crate::output::put32;
@@ -16,6 +16,7 @@ use machine::Made;
 use machine::Report;
 use machine::call;
 use opening::BootStatus;
+use opening::works::boot_number;
 
 // A call that needs no bytes: 2 a store, 3 a cut.
 fn bare_call(op: u8, image: &mut [u32], hand: InHand) -> Made {
@@ -27,28 +28,30 @@ fn bare_call(op: u8, image: &mut [u32], hand: InHand) -> Made {
 fn cold_call(image: &[u32], hand: InHand, digest: &[u8], secret: &[u8]) -> Made {
     let booted = open_cold_boot(image, digest, secret);
     let status = booted.status;
-    match status {
-        BootStatus::Refused(number) => Made {
+    let BootStatus::Ready(outcome) = status else {
+        let number = boot_number(status);
+        return Made {
             hand,
             report: Report::Refused(number),
+        };
+    };
+    let work = booted.work;
+    let left = work.left();
+    Made {
+        hand: InHand {
+            present: true,
+            boot: true,
+            work,
         },
-        BootStatus::Ready(outcome) => {
-            let work = booted.work;
-            let left = work.left();
-            Made {
-                hand: InHand {
-                    present: true,
-                    boot: true,
-                    work,
-                },
-                report: Report::Booted(outcome, left),
-            }
-        }
+        report: Report::Booted(outcome, left),
     }
 }
 
+// Opens a cold boot: two byte strings, the digest and the secret.
 pub(crate) fn cold_boot(input: &[u8], memory: &mut [u32], state: State) -> State
-    requires { ⌜ Ready (now input) (now memory) state ⌝ }
+    requires { ⌜ Ready state ⌝ }
+    requires { ⌜ state .at < length (now input) ⌝ }
+    requires { ⌜ length (now memory) ≡ memoryWords ⌝ }
     ensures { λ r. ⌜ Moved state r ⌝ }
 {
     let words = state.words;
@@ -77,8 +80,11 @@ pub(crate) fn cold_boot(input: &[u8], memory: &mut [u32], state: State) -> State
     }
 }
 
+// Opens an update boot: as a cold boot, and then ROM's verdict.
 pub(crate) fn update_boot(input: &[u8], memory: &mut [u32], state: State) -> State
-    requires { ⌜ Ready (now input) (now memory) state ⌝ }
+    requires { ⌜ Ready state ⌝ }
+    requires { ⌜ state .at < length (now input) ⌝ }
+    requires { ⌜ length (now memory) ≡ memoryWords ⌝ }
     ensures { λ r. ⌜ Moved state r ⌝ }
 {
     let words = state.words;
@@ -113,8 +119,11 @@ pub(crate) fn update_boot(input: &[u8], memory: &mut [u32], state: State) -> Sta
     }
 }
 
+// Opens a request: code, caller and verdict, then two byte strings, the handoff table and the request.
 pub(crate) fn request(input: &[u8], memory: &mut [u32], state: State) -> State
-    requires { ⌜ Ready (now input) (now memory) state ⌝ }
+    requires { ⌜ Ready state ⌝ }
+    requires { ⌜ state .at < length (now input) ⌝ }
+    requires { ⌜ length (now memory) ≡ memoryWords ⌝ }
     ensures { λ r. ⌜ Moved state r ⌝ }
 {
     let at = state.at;
@@ -152,7 +161,7 @@ pub(crate) fn request(input: &[u8], memory: &mut [u32], state: State) -> State
 
 // What a run of stores came to: how many were made, the number of the refusal that ended it or 0, and
 // the work in hand.
-pub struct Ran {
+pub(crate) struct Ran {
     pub made: u32,
     pub number: u32,
     pub hand: InHand,
@@ -166,6 +175,7 @@ fn refusal(report: Report) -> u32 {
     }
 }
 
+// Stores one after another, up to a number of them or to the first that is not made.
 fn store_many(image: &mut [u32], hand: InHand, count: u32) -> Ran {
     let mut now_in = hand;
     let mut made = 0;
@@ -190,8 +200,11 @@ fn store_many(image: &mut [u32], hand: InHand, count: u32) -> Ran {
     }
 }
 
+// Makes a number of stores.
 pub(crate) fn stores(input: &[u8], memory: &mut [u32], state: State) -> State
-    requires { ⌜ Ready (now input) (now memory) state ⌝ }
+    requires { ⌜ Ready state ⌝ }
+    requires { ⌜ state .at < length (now input) ⌝ }
+    requires { ⌜ length (now memory) ≡ memoryWords ⌝ }
     ensures { λ r. ⌜ Moved state r ⌝ }
 {
     let at = state.at;
@@ -212,8 +225,10 @@ pub(crate) fn stores(input: &[u8], memory: &mut [u32], state: State) -> State
     }
 }
 
+// A power cut.
 pub(crate) fn cut(memory: &mut [u32], state: State) -> State
-    requires { ⌜ (state .at < 1048576) × (state .words ≤ 4096) × (length (now memory) ≡ 4096) ⌝ }
+    requires { ⌜ Ready state ⌝ }
+    requires { ⌜ length (now memory) ≡ memoryWords ⌝ }
     ensures { λ r. ⌜ Moved state r ⌝ }
 {
     let words = state.words;

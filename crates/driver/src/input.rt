@@ -12,13 +12,13 @@ pub(crate) fn string_length(input: &[u8], at: usize) -> usize
 
 // A number of eight bytes.
 pub(crate) fn read64(input: &[u8], at: usize) -> usize
-    requires { ⌜ at < 1048576 ⌝ }
+    requires { ⌜ at < 2097152 ⌝ }
 {
     read32(input, at) as usize + 4294967296 * read32(input, at + 4) as usize
 }
 
 // Two byte strings: the first from `first` to `middle`, the second from `second` to `end`.
-pub struct Two {
+pub(crate) struct Two {
     pub first: usize,
     pub middle: usize,
     pub second: usize,

@@ -11,9 +11,11 @@ mod parts;
 mod state;
 
 ghost use mathlib.Core.Path.{_≡_};
-ghost use Prim.Native.Nat.{_≤_};
+ghost use Prim.Native.Nat.{_<_, _≤_};
 ghost use lib.ListN.{length};
-ghost use Rattle.driver.specs.Run.{Ready, Moved};
+ghost use Rattle.driver.specs.Run.{memoryWords, inputBytes, Ready, Moved};
+use crate::state::INPUT_BYTES;
+use crate::state::MEMORY_WORDS;
 use crate::state::State;
 use crate::state::start;
 use crate::state::stopped;
@@ -21,7 +23,9 @@ use libc::STDIN_FILENO;
 
 // One operation.
 fn operation(input: &[u8], memory: &mut [u32], state: State) -> State
-    requires { ⌜ Ready (now input) (now memory) state ⌝ }
+    requires { ⌜ Ready state ⌝ }
+    requires { ⌜ state .at < length (now input) ⌝ }
+    requires { ⌜ length (now memory) ≡ memoryWords ⌝ }
     ensures { λ r. ⌜ Moved state r ⌝ }
 {
     let at = state.at;
@@ -41,10 +45,11 @@ fn operation(input: &[u8], memory: &mut [u32], state: State) -> State
     }
 }
 
+// The operations one after another, from an image of zeros.
 fn run(input: &[u8])
-    requires { ⌜ length (now input) ≤ 1048576 ⌝ }
+    requires { ⌜ length (now input) ≤ inputBytes ⌝ }
 {
-    let mut memory = [0u32; 4096];
+    let mut memory = [0u32; MEMORY_WORDS];
     let mut state = start();
     while state.at < input.len() {
         let next = operation(input, &mut memory, state);
@@ -54,10 +59,10 @@ fn run(input: &[u8])
 
 // Room for the input: of a longer one only this much is used. The `ensures` gives only the length,
 // which lending it needs.
-fn room() -> [u8; 1048576]
-    ensures { λ r. ⌜ 1048576 ≡ length r ⌝ }
+fn room() -> [u8; INPUT_BYTES]
+    ensures { λ r. ⌜ inputBytes ≡ length r ⌝ }
 {
-    [0; 1048576]
+    [0; INPUT_BYTES]
 }
 
 fn main() {

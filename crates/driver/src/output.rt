@@ -1,11 +1,16 @@
 // Writing what an operation gave.
 ghost use mathlib.Core.Path.{_≡_};
-ghost use Prim.Native.Nat.{_≤_};
+ghost use Prim.Native.Nat.{_*_, _≤_};
 ghost use lib.ListN.{length};
+ghost use Rattle.driver.specs.Run.{memoryWords};
 ghost use Rattle.opening.specs.Openings.{outcomeNumber};
+use crate::state::MEMORY_WORDS;
 use libc::STDOUT_FILENO;
 use machine::Report;
 use opening::Outcome;
+
+// The most bytes of an image.
+const IMAGE_BYTES: usize = 4 * MEMORY_WORDS;
 
 pub(crate) fn put8(n: u8) {
     let bytes = [n];
@@ -57,7 +62,7 @@ pub(crate) fn put_opening(report: Report) {
 
 // The bytes of an image's words at the front of a buffer.
 fn unpack(image: &[u32], out: &mut [u8])
-    requires { ⌜ (length (now image) ≤ 4096) × (length (now out) ≡ 16384) ⌝ }
+    requires { ⌜ (length (now image) ≤ memoryWords) × (length (now out) ≡ 4 * memoryWords) ⌝ }
 {
     let mut k = 0;
     while k < image.len() {
@@ -72,11 +77,11 @@ fn unpack(image: &[u32], out: &mut [u8])
 
 // An image: its word count, and its words.
 pub(crate) fn put_image(image: &[u32])
-    requires { ⌜ length (now image) ≤ 4096 ⌝ }
+    requires { ⌜ length (now image) ≤ memoryWords ⌝ }
 {
     let n = image.len();
     put_count(n);
-    let mut out = [0u8; 16384];
+    let mut out = [0u8; IMAGE_BYTES];
     unpack(image, &mut out);
     let end = 4 * n;
     io::write_all(STDOUT_FILENO, &out[..end]);

@@ -2,12 +2,13 @@
 ghost use mathlib.Core.Path.{_≡_};
 ghost use Prim.Native.Nat.{_+_, _*_, _<_, _≤_};
 ghost use lib.ListN.{length};
-ghost use Rattle.driver.specs.Run.{Ready, Moved};
+ghost use Rattle.driver.specs.Run.{memoryWords, Ready, Moved};
 use crate::input::read64;
 use crate::input::string_length;
 use crate::output::put_count;
 use crate::output::put_image;
 use crate::output::put32;
+use crate::state::MEMORY_WORDS;
 use crate::state::State;
 use crate::state::stopped;
 use layout::little_endian::read32;
@@ -19,7 +20,7 @@ use work::Work;
 
 // Words of the input into the front of the memory.
 fn load(input: &[u8], from: usize, memory: &mut [u32], count: usize)
-    requires { ⌜ (from < 2097152) × (count ≤ 4096) × (length (now memory) ≡ 4096) ⌝ }
+    requires { ⌜ (from < 2097152) × (count ≤ memoryWords) × (length (now memory) ≡ memoryWords) ⌝ }
 {
     let mut k = 0;
     while k < count {
@@ -30,12 +31,14 @@ fn load(input: &[u8], from: usize, memory: &mut [u32], count: usize)
 
 // Lends another image: the work in hand goes.
 pub(crate) fn lend(input: &[u8], memory: &mut [u32], state: State) -> State
-    requires { ⌜ Ready (now input) (now memory) state ⌝ }
+    requires { ⌜ Ready state ⌝ }
+    requires { ⌜ state .at < length (now input) ⌝ }
+    requires { ⌜ length (now memory) ≡ memoryWords ⌝ }
     ensures { λ r. ⌜ Moved state r ⌝ }
 {
     let at = state.at;
     let count = read32(input, at + 1) as usize;
-    if 4096 < count {
+    if MEMORY_WORDS < count {
         return stopped(input, state);
     }
     let end = at + 5 + 4 * count;
@@ -52,8 +55,10 @@ pub(crate) fn lend(input: &[u8], memory: &mut [u32], state: State) -> State
     }
 }
 
+// Writes the image.
 pub(crate) fn dump(memory: &[u32], state: State) -> State
-    requires { ⌜ (state .at < 1048576) × (state .words ≤ 4096) × (length (now memory) ≡ 4096) ⌝ }
+    requires { ⌜ Ready state ⌝ }
+    requires { ⌜ length (now memory) ≡ memoryWords ⌝ }
     ensures { λ r. ⌜ Moved state r ⌝ }
 {
     let words = state.words;
@@ -63,8 +68,9 @@ pub(crate) fn dump(memory: &[u32], state: State) -> State
     next
 }
 
+// Writes the stores left of the work in hand.
 pub(crate) fn left(state: State) -> State
-    requires { ⌜ (state .at < 1048576) × (state .words ≤ 4096) ⌝ }
+    requires { ⌜ Ready state ⌝ }
     ensures { λ r. ⌜ Moved state r ⌝ }
 {
     let hand = state.hand;
@@ -97,8 +103,10 @@ fn untouched() -> [u8; 65536]
     [0xA5; 65536]
 }
 
+// Takes the answer into a buffer of the size asked for, and writes its number and the whole buffer.
 pub(crate) fn answer(input: &[u8], state: State) -> State
-    requires { ⌜ (state .at < length (now input)) × (length (now input) ≤ 1048576) × (state .words ≤ 4096) ⌝ }
+    requires { ⌜ Ready state ⌝ }
+    requires { ⌜ state .at < length (now input) ⌝ }
     ensures { λ r. ⌜ Moved state r ⌝ }
 {
     let at = state.at;
@@ -139,6 +147,7 @@ fn with_second(kind: Kind, value: usize) -> Kind {
     }
 }
 
+// A work with another kind.
 fn with_kind(work: Work, kind: Kind) -> Work {
     let register = work.register;
     let journey = work.journey;
@@ -176,8 +185,10 @@ fn with_part(work: Work, field: u8, value: usize) -> Work {
     }
 }
 
+// Sets a part of the work in hand. With none in hand that work is not read again, so nothing changes.
 pub(crate) fn set(input: &[u8], state: State) -> State
-    requires { ⌜ (state .at < length (now input)) × (length (now input) ≤ 1048576) × (state .words ≤ 4096) ⌝ }
+    requires { ⌜ Ready state ⌝ }
+    requires { ⌜ state .at < length (now input) ⌝ }
     ensures { λ r. ⌜ Moved state r ⌝ }
 {
     let at = state.at;
@@ -188,7 +199,8 @@ pub(crate) fn set(input: &[u8], state: State) -> State
     let field = input[at + 1];
     let value = read64(input, at + 2);
     let mut hand = state.hand;
-    let work = with_part(hand.work, field, value);
+    let before = hand.work;
+    let work = with_part(before, field, value);
     hand.work = work;
     State {
         at: end,

@@ -1,12 +1,16 @@
 // Where a run stands.
-ghost use mathlib.Core.Path.{_≡_};
 ghost use Prim.Native.Nat.{_<_, _≤_};
 ghost use lib.ListN.{length};
-ghost use Rattle.driver.specs.Run.{Moved};
+ghost use Rattle.driver.specs.Run.{memoryWords, Ready, Moved};
 use layout::IMAGE_WORDS;
 use machine::InHand;
 use opening::works::bare_work;
 use work::Kind;
+
+// The most words that are lent, and the most bytes of the input that are used.
+pub const MEMORY_WORDS: usize = 4096;
+
+pub const INPUT_BYTES: usize = 1048576;
 
 // The next operation's place in the input, the number of words that are lent, and the work in hand.
 pub struct State {
@@ -17,7 +21,7 @@ pub struct State {
 
 // At first the whole image is lent and no work is in hand.
 pub(crate) fn start() -> State
-    ensures { λ r. ⌜ r .words ≤ 4096 ⌝ }
+    ensures { λ r. ⌜ r .words ≤ memoryWords ⌝ }
 {
     let work = bare_work(Kind::Nothing);
     State {
@@ -33,7 +37,8 @@ pub(crate) fn start() -> State
 
 // The run ends: the next operation would stand at the input's end.
 pub(crate) fn stopped(input: &[u8], state: State) -> State
-    requires { ⌜ (state .at < length (now input)) × (state .words ≤ 4096) ⌝ }
+    requires { ⌜ Ready state ⌝ }
+    requires { ⌜ state .at < length (now input) ⌝ }
     ensures { λ r. ⌜ Moved state r ⌝ }
 {
     let mut last = state;

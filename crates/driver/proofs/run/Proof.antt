@@ -1,12 +1,14 @@
+-- Each turn the next operation stands further on in the input.
 use borrow.Author.Needs.{needs}
 use Prim.Native.Nat.{_≤_, _-_}
 use mathlib.Core.Path.{_≡_}
 use lib.ListN.{length}
+use Rattle.driver.specs.Run.{memoryWords}
 use Rattle.driver.proofs.run.Statement.{statement}
 use Rattle.driver.proofs.run.Tie as tie
 
 abbrev Inv-loop : tie.InvT-loop
-Inv-loop input memory₀ state₀ memory state = (length memory ≡ 4096) × (state .words ≤ 4096)
+Inv-loop input memory₀ state₀ memory state = (length memory ≡ memoryWords) × (state .words ≤ memoryWords)
 
 abbrev μ-loop : tie.MeasureT-loop
 μ-loop input memory₀ state₀ memory state = length input - state .at

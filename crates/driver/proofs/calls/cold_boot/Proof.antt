@@ -1,3 +1,4 @@
+-- The lent part of the memory is as long as it says; the bounds of the two byte strings come from `two_strings`.
 use native.Mathlib.Omega.{arith}
 use mathlib.Core.Path.{sym}
 use lib.Seq.{length-take-le}

@@ -1,3 +1,4 @@
+-- Each turn makes one store more, and the image keeps its length.
 use native.Mathlib.Omega.{arith}
 use borrow.Author.Needs.{needs}
 use Prim.Native.Nat.{_≤_, _-_}

@@ -1,3 +1,4 @@
+-- The lent part of the memory is as long as it says; the bounds of the two byte strings come from `two_strings`.
 use native.Mathlib.Omega.{arith}
 use mathlib.Core.Path.{sym}
 use lib.Seq.{length-take-le}
@@ -63,7 +64,7 @@ same-length : tie.Need-same-length
 same-length c = search needs
 
 returns-2 : tie.Need-returns-2
-returns-2 c = search needs
+returns-2 c = record { further = omega (arith, c .before .before .before .before .before .before .before .before .before .before .before .before .before .two-strings .ensures); lent = c .before .before .before .before .before .before .before .before .before .before .before .before .before .before .before .before .before .pre .0 .lent }
 
 pub update-boot-spec : {M : Type 1} → statement M
 update-boot-spec =

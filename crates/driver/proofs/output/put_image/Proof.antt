@@ -1,3 +1,4 @@
+-- The bytes that are written lie within the buffer.
 use native.Mathlib.Omega.{arith}
 use mathlib.Core.Path.{sym}
 use lib.Seq.{length-take-le}

@@ -1,3 +1,4 @@
+-- Four bytes a word stay within the buffer, which keeps its length.
 use native.Mathlib.Omega.{arith}
 use borrow.Author.Needs.{needs}
 use Prim.Native.Nat.{_≤_, _-_}

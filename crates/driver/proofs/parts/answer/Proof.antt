@@ -1,3 +1,4 @@
+-- The buffer's front is as long as asked for, before and after the answer is taken.
 use native.Mathlib.Omega.{arith}
 use mathlib.Core.Path.{sym}
 use mathlib.Core.List.{_++_}

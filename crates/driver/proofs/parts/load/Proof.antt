@@ -1,3 +1,4 @@
+-- The words stay within the memory, which keeps its length.
 use native.Mathlib.Omega.{arith}
 use borrow.Author.Needs.{needs}
 use Prim.Native.Nat.{_≤_, _-_}
