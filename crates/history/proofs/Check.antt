@@ -97,9 +97,9 @@ module _ (before : List ℕ) (e : length before ≡ imageWords) where
   pub whole-on : getD (step (run (start before) whole-calls) store .state .image) attestationAt 0 ≡ 1
   unfolding start ledgerStep letGo inputsOk allBelow digest secret whole-calls numberOf
   whole-on =
-      demand3 before digest secret (workAt before (coldBoot digest secret) []) (cold-opens before e) whole-calls .1 store whole-ends .0 .on refl .1 refl
+      demand3 before digest secret (workAt before (coldBoot digest secret) []) (cold-opens before e) whole-calls .kept store whole-ends .on refl .1 refl
 
   pub torn-shut : (later : List Call) → Shut (run (step (run (start before) torn-calls) store .state) later .image)
   unfolding start ledgerStep letGo inputsOk allBelow digest secret torn-calls numberOf
   torn-shut later =
-      demand3 before digest secret (workAt before (coldBoot digest secret) []) (cold-opens before e) torn-calls .1 store torn-ends .1 later refl
+      demand3 before digest secret (workAt before (coldBoot digest secret) []) (cold-opens before e) torn-calls .shut store torn-ends refl later

@@ -3,14 +3,14 @@ use mathlib.Core.Path.{_≡_, refl, sym, ap, _∙_, subst}
 use Prim.Native.Nat.{ℕ, zero, suc, _+_, _-_, _*_, _<_, zero-le}
 use native.Mathlib.Nat.{not-suc-le-zero}
 use native.Mathlib.Omega.{arith}
-use mathlib.Core.Bool.{Bool, true, false, cond, not, true≢false, false≢true}
+use mathlib.Core.Bool.{Bool, true, false, cond, not, _||_, true≢false, false≢true}
 use mathlib.Core.List.{List, [], _∷_, _++_}
 use mathlib.Core.Option.{Option, none, some}
 use lib.Dec.{eqb, ltb}
 use borrow.Author.Tests.{eqb-true}
 use lib.ListN.{length, getD, set, take, drop}
 use lib.Seq.{take-all}
-use Rattle.layout.specs.Sizes.{imageWords, attestationAt, secretAt, registersAt, nodesAt, registerCount, registerWords}
+use Rattle.layout.specs.Sizes.{imageWords, markAt, attestationAt, secretAt, registersAt, nodesAt, registerCount, registerWords}
 use Rattle.layout.specs.Words.{words48, part}
 use Rattle.layout.proofs.Cases.{and-right}
 use Rattle.work.specs.Table.{put, indexOk, putOf}
@@ -27,54 +27,72 @@ use Rattle.opening.specs.declared.BootStatus.{BootStatus}
 use Rattle.opening.specs.declared.BootStatus.the-variants as bootStatus
 use Rattle.opening.specs.declared.Booted.{Booted}
 use Rattle.history.specs.Calls.{Call, request, updateBoot, store, powerCut, refusal, stored, Hand, Machine, Step, afterRequest, afterBoot, afterStore, step, run, results, storeAll, afterColdBoot}
-use Rattle.history.specs.Ledger.{State, Ledger, blank, next, stateOf, registerRows, nodeRows, imageOf, storesOf, any, disables, isDisableCommand, viewOf, letGo, ledgerRequest, ledgerBoot, bootRuling, ledgerStore, ledgerStep, ledgerRun, ledgerResults, firstLedger}
-use Rattle.history.specs.Demand.{Shut, wasAccepted, bootEnded, endsBoot, Kept, Demand3}
-use Rattle.history.proofs.Encoded.{attestation-read, secret-read}
-use Rattle.history.proofs.Good.{good-cold}
+use Rattle.history.specs.Ledger.{State, Ledger, blank, next, stateOf, registerRows, nodeRows, imageOf, storesOf, any, disables, isDisableCommand, isOff, tears, viewOf, letGo, ledgerRequest, ledgerBoot, bootRuling, ledgerStore, ledgerStep, ledgerRun, ledgerResults, firstLedger}
+use Rattle.history.specs.Demand.{Shut, wasAccepted, bootEnded, endsBoot, AsCounted, Kept, isUnderWay, Holds, Demand3}
+use Rattle.history.proofs.Encoded.{mark-read, attestation-read, secret-read}
+use Rattle.history.proofs.Good.{Good, good-cold}
 use Rattle.history.proofs.Plans.{apply, length-apply, put-plan}
 use Rattle.history.proofs.Stores.{registers-part, nodes-part}
 use Rattle.history.proofs.Runs.{planAt, length-at, offPlan, command-plan, boot-plan, shut-store, counted, run-cold}
-use Rattle.history.proofs.Ground.{Ground, sound, locked, broken, attestationWord, Fits, ground-length, ruling}
-use Rattle.history.proofs.Sim.{Underway, underway-start, underway-moved, underway-left, store-made, store-refused, next-image, Inv, empty, done, going, Related, sim, sim-run}
+use Rattle.history.proofs.Ground.{Ground, sound, locked, broken, attestationWord, imageAfter, Fits, ground-length, ruling}
+use Rattle.history.proofs.Sim.{release, Underway, underway-start, underway-moved, underway-left, store-made, store-refused, next-image, Inv, empty, done, going, Related, sim, sim-run}
 
 -- ---- between works the image keeps the promise
 
-kept-ground : {l : List ℕ} {b : Ledger} {h : List Task} {t u : Bool} → Ground l h t u → u ≡ false → b .history ≡ h → b .torn ≡ t → Kept l b
-kept-ground {l} {b} {h} (sound g o e) z p q =
+module _ (l : List ℕ) (h : List Task) (g : Good (stateOf h)) (e : l ≡ imageAfter h) where
+  attestation-word : getD l attestationAt 0 ≡ attestationWord (any disables h)
+  attestation-word = ap (λ (y : List ℕ). getD y attestationAt 0) e ∙ attestation-read 1 (attestationWord (any disables h)) (stateOf h)
+
+  counted-sound : (b : Ledger) → b .history ≡ h → b .torn ≡ false → b .unfinished ≡ false → AsCounted l b
+  counted-sound b p q u =
+      record {
+        mark = ap (λ (y : List ℕ). getD y markAt 0) e ∙ mark-read 1 a s ∙ sym (rw u);
+        attestation = attestation-word ∙ word-off (any disables h) ∙ sym (rw (q, p));
+        registers = ap (λ (y : List ℕ). take (registerCount * registerWords) (drop registersAt y)) e ∙ registers-part 1 a s (counted s g) ∙ ap (λ (y : List Task). registerRows (stateOf y)) (sym p);
+        nodes = ap (drop nodesAt) e ∙ nodes-part 1 a s (counted s g) ∙ ap (λ (y : List Task). nodeRows (stateOf y)) (sym p);
+        secret = ap (λ (y : List ℕ). part registerWords y secretAt) e ∙ secret-read 1 a s ∙ ap (λ (y : List Task). words48 (stateOf y .secret)) (sym p);
+      }
+    where
+      a : ℕ
+      a = attestationWord (any disables h)
+
+      s : State
+      s = stateOf h
+
+      word-off : (x : Bool) → attestationWord x ≡ cond x 0 1
+      word-off true = refl
+      word-off false = refl
+
+counted-ground : {l : List ℕ} {b : Ledger} {h : List Task} {t u : Bool} → Ground l h t u → b .history ≡ h → b .torn ≡ t → b .unfinished ≡ u → t ≡ false → AsCounted l b
+counted-ground {l} {b} {h} (sound g o e) p q r z = counted-sound l h g e b p q r
+counted-ground (locked n m s) p q r z = absurd (true≢false z)
+counted-ground (broken n m) p q r z = absurd (true≢false z)
+
+kept-ground : {l : List ℕ} {b : Ledger} {h : List Task} {t u : Bool} → Ground l h t u → u ≡ false → b .history ≡ h → b .torn ≡ t → b .unfinished ≡ u → Kept l b
+kept-ground {l} {b} {h} (sound g o e) z p q r =
     record {
       size = ground-length (sound g o e);
       torn = λ c. absurd (true≢false (sym c ∙ q));
       on = λ c. (
-        λ x. ap (any isDisableCommand) p ∙ sym o ∙ is-on (any disables h) (sym att ∙ x),
-        λ x. att ∙ ap attestationWord (o ∙ sym (ap (any isDisableCommand) p) ∙ x),
+        λ x. ap (any isDisableCommand) p ∙ sym o ∙ is-on (any disables h) (sym (attestation-word l h g e) ∙ x),
+        λ x. attestation-word l h g e ∙ ap attestationWord (o ∙ sym (ap (any isDisableCommand) p) ∙ x),
       );
-      registers = λ c x. ap (λ (y : List ℕ). take (registerCount * registerWords) (drop registersAt y)) e ∙ registers-part 1 a s (counted s g) ∙ ap (λ (y : List Task). registerRows (stateOf y)) (sym p);
-      nodes = λ c x. ap (drop nodesAt) e ∙ nodes-part 1 a s (counted s g) ∙ ap (λ (y : List Task). nodeRows (stateOf y)) (sym p);
-      secret = λ c x. ap (λ (y : List ℕ). part registerWords y secretAt) e ∙ secret-read 1 a s ∙ ap (λ (y : List Task). words48 (stateOf y .secret)) (sym p);
+      counted = λ c. counted-sound l h g e b p q r;
     }
   where
-    a : ℕ
-    a = attestationWord (any disables h)
-
-    s : State
-    s = stateOf h
-
-    att : getD l attestationAt 0 ≡ attestationWord (any disables h)
-    att = ap (λ (y : List ℕ). getD y attestationAt 0) e ∙ attestation-read 1 a s
-
     is-on : (x : Bool) → attestationWord x ≡ 1 → x ≡ false
     is-on true k = absurd (omega arith)
     is-on false k = refl
-kept-ground {l} {b} (locked n m s) z p q =
-    record {
-      size = n;
-      torn = λ c. s;
-      on = λ c. absurd (false≢true (sym c ∙ q));
-      registers = λ c x. absurd (false≢true (sym c ∙ q));
-      nodes = λ c x. absurd (false≢true (sym c ∙ q));
-      secret = λ c x. absurd (false≢true (sym c ∙ q));
-    }
-kept-ground (broken n m) z p q = absurd (true≢false z)
+kept-ground {l} {b} (locked n m s) z p q r =
+    record { size = n; torn = λ c. s; on = λ c. absurd (false≢true (sym c ∙ q)); counted = λ c. absurd (false≢true (sym c ∙ q)) }
+kept-ground (broken n m) z p q r = absurd (true≢false z)
+
+-- nothing torn, and the work in hand would not tear
+at-rest : (m : Machine) (b : Ledger) → Related m b → b .torn ≡ false → isUnderWay b ≡ false → AsCounted (m .image) b
+at-rest m b i q v = counted-ground {b = b} (release i) refl (q ∙ sym none-torn) refl none-torn
+  where
+    none-torn : (b .torn || tears (b .hand) (b .made)) ≡ false
+    none-torn = rw (q, v)
 
 -- ---- where an update boot ends, no work is in its middle
 
@@ -231,34 +249,30 @@ cold-start before d s w e =
 
 -- ---- demand 3
 
-ended : (before d s : List ℕ) (w : Work) → openColdBoot before d s ≡ record { work = w; status = bootStatus.Ready Cold }
-    → (calls : List Call) (c : Call)
-    → endsBoot (step (run (afterColdBoot before w) calls) c) ≡ true
-    → Kept (step (run (afterColdBoot before w) calls) c .state .image) (ledgerStep (ledgerRun (firstLedger d s) calls) c .state)
-    × ((later : List Call) → ledgerStep (ledgerRun (firstLedger d s) calls) c .state .torn ≡ true
-    → Shut (run (step (run (afterColdBoot before w) calls) c .state) later .image))
-ended before d s w e calls c x = (promise, λ later q. shut-run later (m .state) (b .state) i q (promise .torn q))
-  where
-    m : Step Machine
-    m = step (run (afterColdBoot before w) calls) c
-
-    b : Step Ledger
-    b = ledgerStep (ledgerRun (firstLedger d s) calls) c
-
-    i : Related (m .state) (b .state)
-    i = sim (run (afterColdBoot before w) calls) (ledgerRun (firstLedger d s) calls) c
-        (sim-run calls (afterColdBoot before w) (firstLedger d s) (cold-start before d s w e)) .related
-
-    quiet : Ground (m .state .image) (b .state .history) (b .state .torn) (b .state .unfinished) × (b .state .unfinished ≡ false)
-    quiet = settled i (and-right (wasAccepted (m .result)) (bootEnded (m .state .hand)) x)
-
-    promise : Kept (m .state .image) (b .state)
-    promise = kept-ground (quiet .0) (quiet .1) refl refl
-
 same-results : (cs : List Call) (m : Machine) (b : Ledger) → Related m b → results m cs ≡ ledgerResults b cs
 same-results [] m b i = refl
 same-results (c ∷ cs) m b i = λ j. sim m b c i .result j ∷ same-results cs (step m c .state) (ledgerStep b c .state) (sim m b c i .related) j
 
+-- a call that ends a boot leaves no work in its middle
+kept-end : (m : Machine) (b : Ledger) (c : Call) → Related m b → endsBoot (step m c) ≡ true → Kept (step m c .state .image) (ledgerStep b c .state)
+kept-end m b c i x = kept-ground (quiet .0) (quiet .1) refl refl refl
+  where
+    quiet : Ground (step m c .state .image) (ledgerStep b c .state .history) (ledgerStep b c .state .torn) (ledgerStep b c .state .unfinished) × (ledgerStep b c .state .unfinished ≡ false)
+    quiet = settled (sim m b c i .related) (and-right (wasAccepted (step m c .result)) (bootEnded (step m c .state .hand)) x)
+
+-- any list, from a machine and a ledger that are in step
+holds : (m : Machine) (b : Ledger) → Related m b → (calls : List Call) → Holds m b calls
+holds m b start calls =
+    record {
+      results = same-results calls m b start;
+      counted = at-rest (run m calls) (ledgerRun b calls) now;
+      kept = λ c x. kept-end (run m calls) (ledgerRun b calls) c now x;
+      shut = λ c x q later. shut-run later (step (run m calls) c .state) (ledgerStep (ledgerRun b calls) c .state)
+          (sim (run m calls) (ledgerRun b calls) c now .related) q (kept-end (run m calls) (ledgerRun b calls) c now x .torn q);
+    }
+  where
+    now : Related (run m calls) (ledgerRun b calls)
+    now = sim-run calls m b start
+
 pub demand3 : Demand3
-demand3 before d s w e calls =
-    (same-results calls (afterColdBoot before w) (firstLedger d s) (cold-start before d s w e), ended before d s w e calls)
+demand3 before d s w e calls = holds (afterColdBoot before w) (firstLedger d s) (cold-start before d s w e) calls
