@@ -1,10 +1,11 @@
 -- Every, count and first below a bound, for any bound: how a loop finds them, and what they say. Assumes nothing.
 use Prim.Native.Nat.{ℕ, zero, suc, _+_, _-_, _<_, _≤_}
-use mathlib.Core.Path.{_≡_, refl, _∙_}
-use mathlib.Core.Bool.{Bool, true, false, cond, _&&_}
+use mathlib.Core.Path.{_≡_, refl, sym, ap, _∙_}
+use mathlib.Core.Logic.{_≢_}
+use mathlib.Core.Bool.{Bool, true, false, cond, _&&_, true≢false}
 use native.Mathlib.Omega.{arith}
 use native.Mathlib.Numerals.{add-one}
-use native.Mathlib.Decide.{decLt}
+use native.Mathlib.Decide.{decLt, ℕ-discrete}
 use Rattle.layout.proofs.Cases.{and-left, and-right}
 use Rattle.layout.specs.Below.{allBelow, countBelow, firstFrom}
 
@@ -138,3 +139,58 @@ module _ (p : ℕ → Bool) where
         | yes g ↦ absurd (omega (arith, counted-two n i f g b q t))
         | no g ↦ elim (decLt f i) [ yes k ↦ absurd (omega (arith, counted-two n f i k l t q)) | no k ↦ omega arith ]
       ]
+
+-- ---- two properties
+
+-- that agree below a bound
+pub all-same : (p q : ℕ → Bool) (n : ℕ) → ((i : ℕ) → i < n → p i ≡ q i) → allBelow n p ≡ allBelow n q
+unfolding allBelow
+all-same p q zero h = refl
+all-same p q (suc n) h = rw (all-same p q n (λ i l. h i (omega arith)), h n (omega arith))
+
+pub all-below : (p : ℕ → Bool) (n : ℕ) → ((i : ℕ) → i < n → p i ≡ true) → allBelow n p ≡ true
+unfolding allBelow
+all-below p zero h = refl
+all-below p (suc n) h = rw (all-below p n (λ i l. h i (omega arith)), h n (omega arith))
+
+-- ---- how many numbers below a bound have a property
+
+pub count-most : (p : ℕ → Bool) (n : ℕ) → countBelow n p ≤ n
+unfolding countBelow
+count-most p zero = omega arith
+count-most p (suc n) = go (p n) (count-most p n)
+  where
+    go : (b : Bool) → countBelow n p ≤ n → countBelow n p + cond b 1 0 ≤ suc n
+    go true h = omega arith
+    go false h = omega arith
+
+-- one step of the two laws that follow: q has what p has
+step-counts : (c d : ℕ) (a b : Bool) → (a ≡ true → b ≡ true) → c ≤ d → c + cond a 1 0 ≤ d + cond b 1 0
+step-counts c d true true f l = omega arith
+step-counts c d true false f l = absurd (true≢false (sym (f refl)))
+step-counts c d false true f l = omega arith
+step-counts c d false false f l = omega arith
+
+-- q has all that p has, and so as many at least
+pub count-part : (p q : ℕ → Bool) (n : ℕ) → ((i : ℕ) → p i ≡ true → q i ≡ true) → countBelow n p ≤ countBelow n q
+unfolding countBelow
+count-part p q zero h = omega arith
+count-part p q (suc n) h = step-counts (countBelow n p) (countBelow n q) (p n) (q n) (h n) (count-part p q n h)
+
+-- and one more
+pub count-less : (p q : ℕ → Bool) (n k : ℕ) → k < n → ((i : ℕ) → p i ≡ true → q i ≡ true) → p k ≡ false → q k ≡ true → countBelow n p < countBelow n q
+unfolding countBelow
+count-less p q zero k l h e f = absurd (omega arith)
+count-less p q (suc n) k l h e f = elim (ℕ-discrete k n) [
+  | yes z ↦ rw (ap p (sym z) ∙ e, ap q (sym z) ∙ f) (omega (arith, count-part p q n h))
+  | no z ↦ omega (arith, step-counts (suc (countBelow n p)) (countBelow n q) (p n) (q n) (h n) (count-less p q n k (omega arith) h e f))
+]
+
+-- just one
+pub count-only : (q : ℕ → Bool) (n k : ℕ) → k < n → q k ≡ true → ((i : ℕ) → i < n → i ≢ k → q i ≡ false) → countBelow n q ≡ 1
+unfolding countBelow
+count-only q zero k l e h = absurd (omega arith)
+count-only q (suc n) k l e h = elim (ℕ-discrete k n) [
+  | yes z ↦ rw (ap q (sym z) ∙ e, none-counted q n (λ i b. h i (omega arith) (λ (w : i ≡ k). omega arith)))
+  | no z ↦ rw (h n (omega arith) (λ (w : n ≡ k). z (sym w)), count-only q n k (omega arith) e (λ i b. h i (omega arith)))
+]

@@ -3,3 +3,4 @@ pub mod Cases
 pub mod Tab
 pub mod Packing
 pub mod Bounded
+pub mod Blocks

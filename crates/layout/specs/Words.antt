@@ -46,3 +46,8 @@ bytes48 ws = bytesIn (4 * registerWords) ws
 -- n words of a list of words, from an index on
 unfoldable pub part : ℕ → List ℕ → ℕ → List ℕ
 part n l at = tab n (λ k. getD l (at + k) 0)
+
+-- lists one after another
+abbrev pub flat : List (List ℕ) → List ℕ
+flat [] = []
+flat (b ∷ bs) = b ++ flat bs

@@ -1,4 +1,7 @@
 -- Laws that belong to no one function.
 pub mod Steps
-pub mod Meaning
+pub mod Ways
+pub mod Rooted
+pub mod WellFormed
 pub mod Cycles
+pub mod Rows

@@ -1,3 +1,5 @@
--- The measurement nodes of an image, and when they are well formed.
+-- The measurement nodes: as a tree, in an image, and as records.
+pub mod Tree
 pub mod Nodes
 pub mod Record
+pub mod Kinds

@@ -1,60 +1,84 @@
--- A node as a record, and its words in the image (document 01, "Node words"). Assumes nothing.
+-- A node as a record, its words in the image (document 01, "Node words"), and what the rules see of it. Assumes nothing.
 use Prim.Native.Nat.{ℕ, _+_, _*_, _^_}
 use mathlib.Core.Bool.{Bool, true, false}
 use mathlib.Core.List.{List, [], _∷_, _++_}
 use mathlib.Core.Option.{Option, none, some}
-use lib.Dec.{eqb}
-use lib.ListN.{replicate}
-use Rattle.layout.specs.Sizes.{nodeWords, handleWords, rootMark, retiredWord}
-use Rattle.layout.specs.Words.{words48, zeros}
+use lib.ListN.{getD, replicate}
+use Rattle.layout.specs.Sizes.{nodeWords, handleWords}
+use Rattle.layout.specs.Words.{le32, words48, wordsAt, zeros, flat}
+use Rattle.tree.specs.Tree.{Place, freePlace, Tree}
 
 -- "Handle of 20 zero bytes: the default context. Handle of 20 bytes 0xFF: retired."
-pub data Handle : Type 0 where
-  defaultHandle retiredHandle : Handle
+abbrev pub defaultHandle : List ℕ
+defaultHandle = replicate (4 * handleWords) 0
 
-abbrev pub handleRow : Handle → List ℕ
-handleRow defaultHandle = replicate handleWords 0
-handleRow retiredHandle = replicate handleWords retiredWord
+abbrev pub retiredHandle : List ℕ
+retiredHandle = replicate (4 * handleWords) 0xFF
 
--- the measurements are byte strings of 48
+-- the words of a handle
+abbrev pub handleRow : List ℕ → List ℕ
+handleRow h = wordsAt handleWords h 0
+
+-- a used node; handle and measurements are byte strings of 20 and 48
 pub record Node : Type 0 where
   pub parent : ℕ
   pub tag : ℕ
-  pub handle : Handle
+  pub handle : List ℕ
   pub flags : ℕ
   pub current : List ℕ
   pub cumulative : List ℕ
   pub type : ℕ
   pub locality : ℕ
 
--- the words of a used node, in order: word 0, tag, handle, flags, current, cumulative, type, locality
-abbrev pub rowOf : ℕ → ℕ → List ℕ → ℕ → List ℕ → List ℕ → ℕ → ℕ → List ℕ
-rowOf first tag handle flags current cumulative type locality =
-    first ∷ tag ∷ (handle ++ (flags ∷ (current ++ (cumulative ++ (type ∷ locality ∷ [])))))
+-- a used node's words, field by field; "0 low half 1 if used .., high half the parent's index"
+abbrev pub fieldsOf : Node → List (List ℕ)
+fieldsOf n =
+    ((1 + 2 ^ 16 * n .parent) ∷ [])
+    ∷ (n .tag ∷ [])
+    ∷ handleRow (n .handle)
+    ∷ (n .flags ∷ [])
+    ∷ words48 (n .current)
+    ∷ words48 (n .cumulative)
+    ∷ (n .type ∷ [])
+    ∷ (n .locality ∷ [])
+    ∷ []
 
--- "0 low half 1 if used .., high half the parent's index"
 unfoldable pub nodeRow : Node → List ℕ
-nodeRow n =
-    rowOf (1 + 2 ^ 16 * n .parent) (n .tag) (handleRow (n .handle)) (n .flags) (words48 (n .current)) (words48 (n .cumulative)) (n .type) (n .locality)
+nodeRow n = flat (fieldsOf n)
 
--- a place for a node: "a free node is all zero"
-abbrev pub slotRow : Option Node → List ℕ
-slotRow none = zeros nodeWords
-slotRow (some n) = nodeRow n
+-- the words of a place for a node: "a free node is all zero"
+abbrev pub placeRow : Option Node → List ℕ
+placeRow none = zeros nodeWords
+placeRow (some n) = nodeRow n
 
--- a free place, the root, and the holder of the default handle
-abbrev pub isFree : Option Node → Bool
-isFree none = true
-isFree (some n) = false
+-- ---- a node with one field replaced
 
-abbrev pub isRootNode : Option Node → Bool
-isRootNode none = false
-isRootNode (some n) = eqb (n .parent) rootMark
+abbrev pub withHandle : List ℕ → Node → Node
+withHandle v n =
+    record { parent = n .parent; tag = n .tag; handle = v; flags = n .flags; current = n .current; cumulative = n .cumulative; type = n .type; locality = n .locality }
 
-abbrev pub isDefault : Handle → Bool
-isDefault defaultHandle = true
-isDefault retiredHandle = false
+abbrev pub withCurrent : List ℕ → Node → Node
+withCurrent v n =
+    record { parent = n .parent; tag = n .tag; handle = n .handle; flags = n .flags; current = v; cumulative = n .cumulative; type = n .type; locality = n .locality }
 
-abbrev pub isHolder : Option Node → Bool
-isHolder none = false
-isHolder (some n) = isDefault (n .handle)
+abbrev pub withCumulative : List ℕ → Node → Node
+withCumulative v n =
+    record { parent = n .parent; tag = n .tag; handle = n .handle; flags = n .flags; current = n .current; cumulative = v; type = n .type; locality = n .locality }
+
+-- ---- the tree that a list of places makes
+
+abbrev pub placeOf : Option Node → Place
+placeOf none = freePlace
+placeOf (some n) =
+    record {
+      used = true;
+      blank = false;
+      parent = n .parent;
+      handle = handleRow (n .handle);
+      flags = n .flags;
+      type = n .type;
+      locality = n .locality;
+    }
+
+abbrev pub treeOf : List (Option Node) → Tree
+treeOf ns = λ i. placeOf (getD ns i none)
