@@ -4,6 +4,8 @@
 // else.
 pub mod image;
 pub mod little_endian;
+pub mod refusals;
+pub mod strings;
 
 pub const REGISTERS: usize = 32;
 

@@ -1,5 +1,6 @@
--- The openings of requests and boots: the values they prepare, the rules that decide, and what they answer.
-pub mod Values
+-- The openings of requests and boots: what they are given, the rules that decide, the works they give, and what they answer.
 pub mod Tasks
+pub mod Values
+pub mod Rules
 pub mod Works
 pub mod Openings

@@ -1,14 +1,21 @@
 -- The three openings: from any image and any input to the whole answer. An opening reads the image and changes nothing. Assumes nothing.
 use Prim.Native.Nat.{ℕ, _+_}
 use mathlib.Core.Bool.{Bool, not, _&&_}
-use mathlib.Core.List.{List, [], _∷_}
-use lib.Dec.{eqb, leb}
+use mathlib.Core.List.{List, _∷_}
+use mathlib.Core.Option.{Option, none, some}
+use lib.Dec.{eqb}
 use lib.ListN.{length, getD}
 use Rattle.layout.specs.Sizes.{nodeCount, imageWords, registerWords, markAt, attestationAt, registerAt, journeyRegister, currentAt}
 use Rattle.layout.specs.Below.{allBelow}
-use Rattle.tree.specs.Nodes.{word, wellFormed, rootOf, freeOf}
-use Rattle.opening.specs.Tasks.{Request, Task, noStores, keptBoot, disableCommand, disablingBoot, stash, update, coldBoot, Ruling, refused, accepted, View, Rule, rule, firstRefusal, requestRules, requestAccepted, bootRules, updateTask}
-use Rattle.opening.specs.Works.{workAt, refusedWork}
+use Rattle.layout.specs.Refusals.{wrongImage}
+use Rattle.tree.specs.Tree.{wellFormed, rootIn}
+use Rattle.tree.specs.Nodes.{word, treeIn}
+use Rattle.work.specs.Entries.{allStores}
+use Rattle.work.specs.Made.{refusedWork}
+use Rattle.work.specs.declared.Work.{Work}
+use Rattle.opening.specs.Tasks.{Request, BootInputs, Task, coldBoot, Ruling, refused, accepted, View}
+use Rattle.opening.specs.Rules.{Rule, refuses, requestRules, requestRuling, bootRules, bootRuling, updateTask}
+use Rattle.opening.specs.Works.{factsOf, workAt}
 use Rattle.opening.specs.declared.Status.{Status}
 use Rattle.opening.specs.declared.Status.the-variants as status
 use Rattle.opening.specs.declared.Opened.{Opened}
@@ -36,17 +43,12 @@ outcomeNumber Kept = 1
 outcomeNumber Updated = 2
 outcomeNumber Disabled = 3
 
--- what a boot's task comes to (of a request's tasks none is opened as a boot)
-abbrev pub outcomeOf : Task → Outcome
-outcomeOf noStores = Kept
-outcomeOf keptBoot = Kept
-outcomeOf disableCommand = Disabled
-outcomeOf disablingBoot = Disabled
-outcomeOf (stash type digest svn caller) = Kept
-outcomeOf (update digest secret) = Updated
-outcomeOf (coldBoot digest secret) = Cold
-
 -- ---- from a ruling to the answer
+
+-- what a boot's task comes to (no request's task is opened as a boot)
+abbrev pub outcomeOf : Option Outcome → Outcome
+outcomeOf none = Kept
+outcomeOf (some o) = o
 
 abbrev pub openedOf : List ℕ → Ruling → Opened
 openedOf image (refused n) = record { work = refusedWork; status = status.Refused n }
@@ -54,42 +56,44 @@ openedOf image (accepted t a) = record { work = workAt image t a; status = statu
 
 abbrev pub bootedOf : List ℕ → Ruling → Booted
 bootedOf image (refused n) = record { work = refusedWork; status = bootStatus.Refused n }
-bootedOf image (accepted t a) = record { work = workAt image t a; status = bootStatus.Ready (outcomeOf t) }
+bootedOf image (accepted t a) = record { work = workAt image t a; status = bootStatus.Ready (outcomeOf (factsOf t .boot)) }
 
 -- ---- the openings
 
 -- "1 image not 1,216 words"
 abbrev pub sizeRule : List ℕ → Rule
-sizeRule image = rule (not (eqb (length image) imageWords)) 1
+sizeRule image = refuses wrongImage (not (eqb (length image) imageWords))
 
 -- what the request rules see of an image: "flow mark: 1 is done, anything else is unfinished"; "attestation: 1 is on, anything else is off"
 unfoldable pub viewIn : List ℕ → View
-viewIn image =
-    record {
-      done = eqb (getD image markAt 0) 1;
-      on = eqb (getD image attestationAt 0) 1;
-      formed = wellFormed image;
-      full = leb nodeCount (freeOf image);
-    }
+viewIn image = record { done = eqb (getD image markAt 0) 1; on = eqb (getD image attestationAt 0) 1; nodes = treeIn image }
 
 unfoldable pub openRequest : List ℕ → Request → Opened
-openRequest image r = openedOf image (firstRefusal (sizeRule image ∷ requestRules (viewIn image) r) (requestAccepted (viewIn image) r))
+openRequest image r = openedOf image (requestRuling (sizeRule image ∷ requestRules (viewIn image) r) r)
 
--- "A boot's answer has no bytes."
-unfoldable pub openColdBoot : List ℕ → List ℕ → List ℕ → Booted
-openColdBoot image digest secret =
-    bootedOf image (firstRefusal (sizeRule image ∷ bootRules digest secret) (accepted (coldBoot digest secret) []))
+unfoldable pub openColdBoot : List ℕ → BootInputs → Booted
+openColdBoot image x = bootedOf image (bootRuling (sizeRule image ∷ bootRules x) (coldBoot x))
 
 -- "root's current" like PCR3, word for word
 unfoldable pub rootMatches : List ℕ → Bool
 rootMatches image =
-    allBelow registerWords (λ k. eqb (word image (rootOf image) (currentAt + k)) (getD image (registerAt journeyRegister + k) 0))
+    let root = rootIn nodeCount (treeIn image) in
+    allBelow registerWords (λ k. eqb (word image root (currentAt + k)) (getD image (registerAt journeyRegister + k) 0))
 
 -- none of "mark not 1, attestation not 1, not well formed, or root's current unlike PCR3"
 unfoldable pub intact : List ℕ → Bool
-intact image = eqb (getD image markAt 0) 1 && (eqb (getD image attestationAt 0) 1 && (wellFormed image && rootMatches image))
+intact image =
+    eqb (getD image markAt 0) 1 && (eqb (getD image attestationAt 0) 1 && (wellFormed nodeCount (treeIn image) && rootMatches image))
 
-unfoldable pub openUpdateBoot : List ℕ → List ℕ → List ℕ → Bool → Booted
-openUpdateBoot image digest secret verdict =
-    bootedOf image
-    (firstRefusal (sizeRule image ∷ bootRules digest secret) (accepted (updateTask (intact image) verdict digest secret) []))
+unfoldable pub openUpdateBoot : List ℕ → BootInputs → Bool → Booted
+openUpdateBoot image x verdict = bootedOf image (bootRuling (sizeRule image ∷ bootRules x) (updateTask (intact image) verdict x))
+
+-- ---- a cold boot run to its end
+
+-- all stores of an accepted boot; a refused one stores nothing
+abbrev pub storedBy : List ℕ → Work → BootStatus → List ℕ
+storedBy image w (bootStatus.Ready o) = allStores w image .image
+storedBy image w (bootStatus.Refused n) = image
+
+unfoldable pub coldBooted : List ℕ → BootInputs → List ℕ
+coldBooted image x = let b = openColdBoot image x in storedBy image (b .work) (b .status)

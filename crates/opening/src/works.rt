@@ -1,50 +1,14 @@
-// Works that store no prepared word, the work beside a refusal, and the answers of openings with
-// their numbers.
+// The answers of openings, and their numbers.
 ghost use mathlib.Core.Path.{_≡_};
-ghost use mathlib.Core.List.{[]};
-ghost use Rattle.opening.specs.Works.{plainWork, refusedWork};
-ghost use Rattle.opening.specs.Openings.{statusNumber, bootNumber};
+ghost use Rattle.work.specs.Made.{refusedWork};
+ghost use Rattle.opening.specs.Openings.{statusNumber, bootNumber, outcomeNumber};
 use crate::BootStatus;
 use crate::Booted;
 use crate::Opened;
 use crate::Outcome;
 use crate::Status;
-use layout::ANSWER_MAX;
-use layout::NODE_WORDS;
-use layout::REGISTER_WORDS;
-use work::Kind;
 use work::Work;
-
-// A work with no answer.
-pub fn bare_work(kind: Kind) -> Work
-    ensures { λ r. ⌜ r ≡ plainWork kind [] ⌝ }
-{
-    Work {
-        kind,
-        position: 0,
-        register: [0u32; REGISTER_WORDS],
-        journey: [0u32; REGISTER_WORDS],
-        node: [0u32; NODE_WORDS],
-        secret: [0u32; REGISTER_WORDS],
-        answer: [0u8; ANSWER_MAX],
-        answer_len: 0,
-    }
-}
-
-fn refused_work() -> Work
-    ensures { λ r. ⌜ r ≡ refusedWork ⌝ }
-{
-    Work {
-        kind: Kind::Nothing,
-        position: 1,
-        register: [0u32; REGISTER_WORDS],
-        journey: [0u32; REGISTER_WORDS],
-        node: [0u32; NODE_WORDS],
-        secret: [0u32; REGISTER_WORDS],
-        answer: [0u8; ANSWER_MAX],
-        answer_len: 0,
-    }
-}
+use work::make::refused_work;
 
 pub fn ready(work: Work) -> Opened
     ensures { λ r. ⌜ r ≡ record { work = work; status = Status.Ready } ⌝ }
@@ -101,5 +65,17 @@ pub fn boot_number(status: BootStatus) -> u32
     match status {
         BootStatus::Ready(_) => 0,
         BootStatus::Refused(number) => number,
+    }
+}
+
+// The number of an outcome.
+pub fn outcome_number(outcome: Outcome) -> u8
+    ensures { λ r. ⌜ r ≡ outcomeNumber outcome ⌝ }
+{
+    match outcome {
+        Outcome::Cold => 0,
+        Outcome::Kept => 1,
+        Outcome::Updated => 2,
+        Outcome::Disabled => 3,
     }
 }

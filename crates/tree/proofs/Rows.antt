@@ -1,17 +1,18 @@
 -- A node's words, field by field: one law to read a word of a field, one to replace a field, each for every field. Assumes nothing.
 use mathlib.Core.Path.{_≡_, refl, sym, ap, _∙_}
-use Prim.Native.Nat.{ℕ, _+_, _*_, _^_, _<_}
+use Prim.Native.Nat.{ℕ, _+_, _-_, _*_, _^_, _≤_, _<_}
+use native.Mathlib.Decide.{decLt}
 use native.Mathlib.Omega.{arith}
 use mathlib.Core.List.{List, [], _∷_, _++_}
 use mathlib.Core.Option.{Option, none, some}
-use lib.ListN.{length, getD, set, length-append}
+use lib.ListN.{length, getD, set, take, length-append}
 use lib.Seq.{sets}
-use Rattle.layout.specs.Sizes.{nodeWords, registerWords, handleAt, handleWords, flagsAt, currentAt, cumulativeAt, typeAt, localityAt}
-use Rattle.layout.specs.Words.{words48, flat}
-use Rattle.layout.proofs.Tab.{length-zeros}
+use Rattle.layout.specs.Sizes.{nodeWords, registerWords, tagAt, handleAt, handleWords, flagsAt, currentAt, cumulativeAt, typeAt, localityAt}
+use Rattle.layout.specs.Words.{tab, zeros, wordsAt, words48, flat}
+use Rattle.layout.proofs.Tab.{length-zeros, getD-zeros, tab-full, tab-is}
 use Rattle.layout.proofs.Packing.{length-words}
 use Rattle.layout.proofs.Blocks.{offset, block-at, block-sets}
-use Rattle.tree.specs.Record.{Node, handleRow, fieldsOf, nodeRow, placeRow, withHandle, withCurrent, withCumulative}
+use Rattle.tree.specs.Record.{Node, defaultHandle, handleRow, fieldsFrom, fieldsOf, nodeRow, placeRow, withHandle, withCurrent, withCumulative}
 
 pub length-handle : (h : List ℕ) → length (handleRow h) ≡ handleWords
 length-handle h = length-words handleWords h 0
@@ -87,3 +88,43 @@ pub length-row : (s : Option Node) → length (placeRow s) ≡ nodeWords
 unfolding nodeRow
 length-row none = length-zeros nodeWords
 length-row (some n) = simp (length-append, length-handle, length-words)
+
+-- ---- a row from its words, with tag 0 and the default handle, as the code makes it
+
+pub default-row : handleRow defaultHandle ≡ zeros handleWords
+unfolding wordsAt tab zeros
+default-row = refl
+
+module _ (first flags type locality : ℕ) (current cumulative : List ℕ) (hc : length current ≡ registerWords) (hm : length cumulative ≡ registerWords) where
+  abbrev raw : List (List ℕ)
+  raw = fieldsFrom first 0 (zeros handleWords) flags current cumulative type locality
+
+  pub raw-zero : (j : ℕ) → j < flagsAt → 0 < j → getD (flat raw) j 0 ≡ 0
+  raw-zero j h l = elim (decLt j handleAt) [
+    | yes b ↦ (let e : j ≡ tagAt = omega arith in block-at raw 1 0 j e (omega arith))
+    | no b ↦ block-at raw 2 (j - handleAt) j (omega arith) (omega (arith, length-zeros handleWords)) ∙ getD-zeros handleWords (j - handleAt) (omega arith)
+  ]
+
+  pub raw-flags : (j : ℕ) → j ≡ flagsAt → getD (flat raw) j 0 ≡ flags
+  raw-flags j e = block-at raw 3 0 j (omega (arith, length-zeros handleWords)) (omega arith)
+
+  pub raw-current : (j : ℕ) → currentAt ≤ j → j < cumulativeAt → getD (flat raw) j 0 ≡ getD current (j - currentAt) 0
+  raw-current j l h = block-at raw 4 (j - currentAt) j (omega (arith, length-zeros handleWords)) (omega arith)
+
+  pub raw-cumulative : (j : ℕ) → cumulativeAt ≤ j → j < typeAt → getD (flat raw) j 0 ≡ getD cumulative (j - cumulativeAt) 0
+  raw-cumulative j l h = block-at raw 5 (j - cumulativeAt) j (omega (arith, length-zeros handleWords)) (omega arith)
+
+  pub raw-type : (j : ℕ) → j ≡ typeAt → getD (flat raw) j 0 ≡ type
+  raw-type j e = block-at raw 6 0 j (omega (arith, length-zeros handleWords)) (omega arith)
+
+  pub raw-locality : (j : ℕ) → j ≡ localityAt → getD (flat raw) j 0 ≡ locality
+  raw-locality j e = block-at raw 7 0 j (omega (arith, length-zeros handleWords)) (omega arith)
+
+  raw-length : length (flat raw) ≡ nodeWords
+  raw-length = simp (length-append, length-zeros) (omega arith)
+
+  -- a list that was filled with the row's words is the row
+  pub raw-filled : (l : List ℕ) → length l ≡ nodeWords → take nodeWords l ≡ tab nodeWords (λ i. getD (flat raw) i 0) → l ≡ flat raw
+  raw-filled l h e =
+      let f : ℕ → ℕ = λ i. getD (flat raw) i 0 in
+      tab-full f l nodeWords h e ∙ tab-is f (flat raw) nodeWords raw-length (λ i b. refl)

@@ -30,18 +30,15 @@ pub record Node : Type 0 where
   pub type : ℕ
   pub locality : ℕ
 
--- a used node's words, field by field; "0 low half 1 if used .., high half the parent's index"
+-- a node's words, field by field: word 0, tag, handle, flags, current, cumulative, type, locality
+abbrev pub fieldsFrom : ℕ → ℕ → List ℕ → ℕ → List ℕ → List ℕ → ℕ → ℕ → List (List ℕ)
+fieldsFrom first tag handle flags current cumulative type locality =
+    (first ∷ []) ∷ (tag ∷ []) ∷ handle ∷ (flags ∷ []) ∷ current ∷ cumulative ∷ (type ∷ []) ∷ (locality ∷ []) ∷ []
+
+-- "0 low half 1 if used .., high half the parent's index"
 abbrev pub fieldsOf : Node → List (List ℕ)
 fieldsOf n =
-    ((1 + 2 ^ 16 * n .parent) ∷ [])
-    ∷ (n .tag ∷ [])
-    ∷ handleRow (n .handle)
-    ∷ (n .flags ∷ [])
-    ∷ words48 (n .current)
-    ∷ words48 (n .cumulative)
-    ∷ (n .type ∷ [])
-    ∷ (n .locality ∷ [])
-    ∷ []
+    fieldsFrom (1 + 2 ^ 16 * n .parent) (n .tag) (handleRow (n .handle)) (n .flags) (words48 (n .current)) (words48 (n .cumulative)) (n .type) (n .locality)
 
 unfoldable pub nodeRow : Node → List ℕ
 nodeRow n = flat (fieldsOf n)
@@ -50,6 +47,24 @@ nodeRow n = flat (fieldsOf n)
 abbrev pub placeRow : Option Node → List ℕ
 placeRow none = zeros nodeWords
 placeRow (some n) = nodeRow n
+
+-- a node that a boot or a stash makes: tag 0, default handle
+abbrev pub newNode : ℕ → ℕ → List ℕ → List ℕ → ℕ → ℕ → Node
+newNode parent flags current cumulative type locality =
+    record {
+      parent = parent;
+      tag = 0;
+      handle = defaultHandle;
+      flags = flags;
+      current = current;
+      cumulative = cumulative;
+      type = type;
+      locality = locality;
+    }
+
+-- a root's new measurements in the places that they have in a node; the other words are zero
+abbrev pub measurementsRow : List ℕ → List ℕ → List ℕ
+measurementsRow current cumulative = flat (fieldsFrom 0 0 (zeros handleWords) 0 (words48 current) (words48 cumulative) 0 0)
 
 -- ---- a node with one field replaced
 

@@ -2,3 +2,5 @@
 pub mod Numbers
 pub mod Shape
 pub mod Numbered
+pub mod Plans
+pub mod After

@@ -1,12 +1,13 @@
 -- What the entries over a work answer: stores left, one store, the answer (document 01, "Work, one word at a time" and "Numbers handed back").
 -- Each is defined for every work value and every image. Assumes nothing.
-use Prim.Native.Nat.{ℕ, _+_, _-_}
+use Prim.Native.Nat.{ℕ, zero, suc, _+_, _-_}
 use mathlib.Core.Bool.{Bool, cond, not, _&&_}
 use mathlib.Core.List.{List}
 use lib.ListN.{length, set}
 use lib.Dec.{leb, ltb, eqb}
 use lib.Seq.{paste}
 use Rattle.layout.specs.Sizes.{imageWords, answerMax}
+use Rattle.layout.specs.Refusals.{wrongImage, storesLeft, shortBuffer, noStoreLeft}
 use Rattle.work.specs.Table.{numberOf, putOf, indexOk}
 use Rattle.work.specs.declared.Work.{Work}
 use Rattle.work.specs.declared.Put.{Put}
@@ -37,7 +38,7 @@ moved w =
 
 -- "store: 1; 9 no store left"; success is 0
 unfoldable pub storeNumber : Work → List ℕ → ℕ
-storeNumber w image = cond (eqb (length image) imageWords) (cond (ltb 0 (leftOf w)) 0 9) 1
+storeNumber w image = cond (eqb (length image) imageWords) (cond (ltb 0 (leftOf w)) 0 noStoreLeft) wrongImage
 
 -- the number, and the work: one store on, or unchanged
 unfoldable pub storeResult : Work → List ℕ → Stored
@@ -56,7 +57,7 @@ finished w = wellShaped w && eqb (w .position) (numberOf (w .kind))
 
 -- "answer: 7 stores left; 8 buffer shorter than the answer", for a buffer of n bytes; success is 0
 unfoldable pub answerNumber : Work → ℕ → ℕ
-answerNumber w n = cond (not (finished w)) 7 (cond (ltb n (w .«answer_len»)) 8 0)
+answerNumber w n = cond (not (finished w)) storesLeft (cond (ltb n (w .«answer_len»)) shortBuffer 0)
 
 unfoldable pub answerResult : Work → List ℕ → Answered
 answerResult w buffer =
@@ -68,3 +69,19 @@ answerResult w buffer =
 -- the buffer afterwards: the answer, and "bytes past the answer stay"; refused, every byte stays
 unfoldable pub answerBuffer : Work → List ℕ → List ℕ
 answerBuffer w buffer = cond (eqb (answerNumber w (length buffer)) 0) (paste buffer 0 (w .answer) (w .«answer_len»)) buffer
+
+-- ---- all stores of a work, each by the store entry
+
+-- a work and an image
+pub record After : Type 0 where
+  pub work : Work
+  pub image : List ℕ
+
+-- after n stores
+abbrev pub afterStores : ℕ → Work → List ℕ → After
+afterStores zero w image = record { work = w; image = image }
+afterStores (suc n) w image = afterStores n (storeResult w image .work) (storeImage w image)
+
+-- after all that are left
+unfoldable pub allStores : Work → List ℕ → After
+allStores w image = afterStores (leftOf w) w image

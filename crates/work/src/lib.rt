@@ -1,5 +1,7 @@
 // A piece of work: what it will store, how far it is, and its prepared answer.
+pub mod make;
 mod puts;
+pub mod run;
 
 ghost use mathlib.Core.Path.{_≡_};
 ghost use mathlib.Core.Bool.{cond};
@@ -21,6 +23,10 @@ use layout::IMAGE_WORDS;
 use layout::NODE_WORDS;
 use layout::NODES;
 use layout::REGISTER_WORDS;
+use layout::refusals::NO_STORE_LEFT;
+use layout::refusals::SHORT_BUFFER;
+use layout::refusals::STORES_LEFT;
+use layout::refusals::WRONG_IMAGE;
 
 // Where a stash stores: the new node, and the node that held the default handle.
 pub struct StashAt {
@@ -153,10 +159,10 @@ impl Work {
         ensures { λ r. ⌜ r ≡ storeNumber self (now (image .entry)) ⌝ }
     {
         if image.len() != IMAGE_WORDS {
-            return 1;
+            return WRONG_IMAGE;
         }
         if self.left() == 0 {
-            return 9;
+            return NO_STORE_LEFT;
         }
         0
     }
@@ -205,14 +211,14 @@ impl Work {
     {
         if !self.finished() {
             return Answered {
-                number: 7,
+                number: STORES_LEFT,
                 written: 0,
             };
         }
         let n = self.answer_len;
         if buffer.len() < n {
             return Answered {
-                number: 8,
+                number: SHORT_BUFFER,
                 written: 0,
             };
         }

@@ -3,16 +3,15 @@ use native.Mathlib.Omega.{arith}
 use borrow.Author.Needs.{needs}
 use native.Mathlib.Nat.{sub-zero}
 use Prim.Native.Nat.{_+_, _-_, _≤_}
-use mathlib.Core.Path.{_≡_, refl, sym, _∙_}
+use mathlib.Core.Path.{_≡_, refl, sym, ap, _∙_}
 use lib.ListN.{length}
-use Rattle.history.specs.Calls.{storeAll}
-use Rattle.respond.specs.Program.{workAfter}
-use Rattle.respond.proofs.After.{work-step, image-step, work-none, image-none}
-use Rattle.respond.proofs.run.run_all.Statement.{statement}
-use Rattle.respond.proofs.run.run_all.Tie as tie
+use Rattle.work.specs.Entries.{After, afterStores, allStores}
+use Rattle.work.proofs.After.{after-step, after-none}
+use Rattle.work.proofs.run.run_all.Statement.{statement}
+use Rattle.work.proofs.run.run_all.Tie as tie
 
 abbrev Inv-loop : tie.InvT-loop
-Inv-loop image₀ n at₀ i₀ image at i = (i ≤ n) × (length image ≡ length image₀) × (workAfter n at₀ image₀ ≡ workAfter (n - i) at image) × (storeAll n at₀ image₀ ≡ storeAll (n - i) at image)
+Inv-loop image₀ n at₀ i₀ image at i = (i ≤ n) × (length image ≡ length image₀) × (afterStores n at₀ image₀ ≡ afterStores (n - i) at image)
 
 abbrev μ-loop : tie.MeasureT-loop
 μ-loop image₀ n at₀ i₀ image at i = n - i
@@ -21,7 +20,7 @@ left-requires : tie.Need-left-requires Inv-loop μ-loop
 left-requires c κs = search needs
 
 loop-holds : tie.Need-loop-holds Inv-loop μ-loop
-loop-holds c = (search needs, refl, rw sub-zero, rw sub-zero)
+loop-holds c = (search needs, refl, rw sub-zero)
 
 store-requires : tie.Need-store-requires Inv-loop μ-loop
 store-requires c κs = search needs
@@ -39,17 +38,18 @@ loop-again c = let l = c .before .before .before .before .before .before .loop i
     let h : n - l .i ≡ n - (l .i + 1) + 1 = omega arith in (
       omega arith,
       s .kept .1 .0 ∙ l .inv .1,
-      l .inv .2 ∙ work-step (n - l .i) (n - (l .i + 1)) (l .at) (l .image) h ∙ rw (← s .ensures .0, ← s .ensures .1),
-      l .inv .3 ∙ image-step (n - l .i) (n - (l .i + 1)) (l .at) (l .image) h ∙ rw (← s .ensures .0, ← s .ensures .1),
+      l .inv .2 ∙ after-step (n - l .i) (n - (l .i + 1)) (l .at) (l .image) h ∙ rw (← s .ensures .0, ← s .ensures .1),
     )
 
 same-length : tie.Need-same-length Inv-loop μ-loop
 same-length c = c .before .loop .inv .1
 
 returns : tie.Need-returns Inv-loop μ-loop
+unfolding allStores
 returns c = let l = c .before .loop in
     let e : c .before .before .left .result - l .i ≡ 0 = omega arith in
-    (rw (← c .before .before .left .ensures) (sym (l .inv .2 ∙ work-none _ (l .at) (l .image) e)), rw (← c .before .before .left .ensures) (sym (l .inv .3 ∙ image-none _ (l .at) (l .image) e)))
+    let all = sym (l .inv .2 ∙ after-none _ (l .at) (l .image) e) in
+    (rw (← c .before .before .left .ensures) (ap (λ (x : After). x .work) all), rw (← c .before .before .left .ensures) (ap (λ (x : After). x .image) all))
 
 pub run-all-spec : {M : Type 1} → statement M
 run-all-spec =

@@ -1,0 +1,60 @@
+-- The numbers handed back (document 01, "Numbers handed back" and the sentence on a declined stash). Success is 0. Assumes nothing.
+use Prim.Native.Nat.{ℕ}
+
+-- "1 image not 1,216 words"
+abbrev pub wrongImage : ℕ
+wrongImage = 1
+
+-- "2 mark not 1"
+abbrev pub unfinished : ℕ
+unfinished = 2
+
+-- "3 unknown code"
+abbrev pub unknownCode : ℕ
+unknownCode = 3
+
+-- "4 wrong request length"
+abbrev pub wrongLength : ℕ
+wrongLength = 4
+
+-- "0x4243484B bad checksum": the letters BCHK
+abbrev pub badChecksum : ℕ
+badChecksum = 0x4243484B
+
+-- "5 handoff table wrong"
+abbrev pub wrongTable : ℕ
+wrongTable = 5
+
+-- "0x42534947 verdict no": the letters BSIG
+abbrev pub badSignature : ℕ
+badSignature = 0x42534947
+
+-- "6 digest or secret not 48 bytes, or secret all zero"
+abbrev pub wrongInputs : ℕ
+wrongInputs = 6
+
+-- "7 stores left"
+abbrev pub storesLeft : ℕ
+storesLeft = 7
+
+-- "8 buffer shorter than the answer"
+abbrev pub shortBuffer : ℕ
+shortBuffer = 8
+
+-- "9 no store left"
+abbrev pub noStoreLeft : ℕ
+noStoreLeft = 9
+
+-- "refusal 11 if the image is not well formed"
+abbrev pub notWellFormed : ℕ
+notWellFormed = 11
+
+-- the dpe results: an accepted stash 0, "1 if all 24 nodes are used", "2 if attestation is off"
+abbrev pub dpeAccepted : ℕ
+dpeAccepted = 0
+
+abbrev pub dpeFull : ℕ
+dpeFull = 1
+
+abbrev pub dpeOff : ℕ
+dpeOff = 2

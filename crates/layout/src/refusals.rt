@@ -1,0 +1,33 @@
+// The numbers handed back, by name; success is 0. The same names stand in specs/Refusals.antt.
+pub const WRONG_IMAGE: u32 = 1;
+
+pub const UNFINISHED: u32 = 2;
+
+pub const UNKNOWN_CODE: u32 = 3;
+
+pub const WRONG_LENGTH: u32 = 4;
+
+// The letters BCHK.
+pub const BAD_CHECKSUM: u32 = 0x4243484B;
+
+pub const WRONG_TABLE: u32 = 5;
+
+// The letters BSIG.
+pub const BAD_SIGNATURE: u32 = 0x42534947;
+
+pub const WRONG_INPUTS: u32 = 6;
+
+pub const STORES_LEFT: u32 = 7;
+
+pub const SHORT_BUFFER: u32 = 8;
+
+pub const NO_STORE_LEFT: u32 = 9;
+
+pub const NOT_WELL_FORMED: u32 = 11;
+
+// The dpe results of a stash.
+pub const DPE_ACCEPTED: u32 = 0;
+
+pub const DPE_FULL: u32 = 1;
+
+pub const DPE_OFF: u32 = 2;

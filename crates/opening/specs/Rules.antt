@@ -1,0 +1,172 @@
+-- The rules that decide a request or a boot, as flat lists read top down (document 01, "Mailbox", "Numbers handed back"). They see a view of the unit that is
+-- taken from an image or from the history's ledger. Assumes nothing.
+use Prim.Native.Nat.{ℕ}
+use mathlib.Core.Bool.{Bool, true, false, cond, not, _&&_}
+use mathlib.Core.List.{List, [], _∷_, _++_}
+use lib.Dec.{eqb, leb}
+use lib.ListN.{length, getD, take, drop}
+use Rattle.layout.specs.Sizes.{nodeCount}
+use Rattle.layout.specs.Words.{le16, le32, bytes4}
+use Rattle.layout.specs.Below.{allBelow}
+use Rattle.layout.specs.Refusals as number
+use Rattle.message.specs.Checksum.{checksumOf}
+use Rattle.tree.specs.Tree.{wellFormed, lowestFree}
+use Rattle.opening.specs.Tasks.{Request, BootInputs, Measurement, Task, noStores, keptBoot, disableCommand, disablingBoot, stash, update, Ruling, refused, accepted, View}
+
+-- ---- "The first that applies wins, top down within each entry."
+
+-- a refusal with its number, or a decline with its dpe result
+pub data Verdict : Type 0 where
+  refuse decline : ℕ → Verdict
+
+pub record Rule : Type 0 where
+  pub applies : Bool
+  pub verdict : Verdict
+
+abbrev pub refuses : ℕ → Bool → Rule
+refuses n b = record { applies = b; verdict = refuse n }
+
+abbrev pub declines : ℕ → Bool → Rule
+declines n b = record { applies = b; verdict = decline n }
+
+abbrev pub judged : (ℕ → Ruling) → Verdict → Ruling
+judged declined (refuse n) = refused n
+judged declined (decline n) = declined n
+
+-- what a list of rules comes to: `declined` by a decline, `otherwise` where none applies
+abbrev pub decide : List Rule → (ℕ → Ruling) → Ruling → Ruling
+decide [] declined otherwise = otherwise
+decide (r ∷ rs) declined otherwise = cond (r .applies) (judged declined (r .verdict)) (decide rs declined otherwise)
+
+-- ---- the request's fields
+
+-- "Byte 0 to 3 is the checksum. It must equal" the checksum of the code and of every byte after the field
+unfoldable pub badChecksum : ℕ → List ℕ → Bool
+badChecksum code bytes = not (eqb (le32 bytes 0) (checksumOf code (drop 4 bytes)))
+
+-- "Handoff table (003): exactly 2,048 bytes; marker 0x54484643 at 0, major version 1 at 4 (two bytes), any minor version."
+unfoldable pub handoffOk : List ℕ → Bool
+handoffOk h = eqb (length h) 2048 && (eqb (le32 h 0) 0x54484643 && eqb (le16 h 4) 1)
+
+-- "60: checksum, type 4, digest 48, svn 4", and the caller
+abbrev pub measurementIn : Request → Measurement
+measurementIn r = record { type = le32 (r .bytes) 4; digest = take 48 (drop 8 (r .bytes)); svn = le32 (r .bytes) 56; caller = r .caller }
+
+-- ---- the table of commands
+
+pub record Command : Type 0 where
+  pub known : Bool
+  -- "Request bytes"
+  pub lengthOk : List ℕ → Bool
+  -- its own rules, after the checksum
+  pub rules : View → Request → List Rule
+  -- what it does, and what it answers after checksum and status, where no rule applies
+  pub task : Request → Task
+  pub answer : Request → List ℕ
+
+abbrev pub stashCode : ℕ
+stashCode = 0x4D454153
+
+abbrev pub disableCode : ℕ
+disableCode = 0x4453424C
+
+abbrev pub identityCode : ℕ
+identityCode = 0x49444549
+
+abbrev pub verifyCode : ℕ
+verifyCode = 0x53494756
+
+-- "Stash declines .. dpe result is 2 if attestation is off, else gives refusal 11 if the image is not well formed, else declines with dpe result 1 if all
+-- 24 nodes are used. An accepted stash answers dpe result 0."
+abbrev pub stashMeasurement : Command
+stashMeasurement =
+    record {
+      known = true;
+      lengthOk = λ b. eqb (length b) 60;
+      rules = λ v r.
+          declines number.dpeOff (not (v .on))
+          ∷ refuses number.notWellFormed (not (wellFormed nodeCount (v .nodes)))
+          ∷ declines number.dpeFull (leb nodeCount (lowestFree nodeCount (v .nodes)))
+          ∷ [];
+      task = λ r. stash (measurementIn r);
+      answer = λ r. bytes4 number.dpeAccepted;
+    }
+
+abbrev pub disableAttestation : Command
+disableAttestation = record { known = true; lengthOk = λ b. eqb (length b) 4; rules = λ v r. []; task = λ r. disableCommand; answer = λ r. [] }
+
+-- "5 handoff table wrong (identity key only)"; "X 48, Y 48", bytes 304 to 399 of the table
+abbrev pub identityKey : Command
+identityKey =
+    record {
+      known = true;
+      lengthOk = λ b. eqb (length b) 4;
+      rules = λ v r. refuses number.wrongTable (not (handoffOk (r .handoff))) ∷ [];
+      task = λ r. noStores;
+      answer = λ r. take 96 (drop 304 (r .handoff));
+    }
+
+-- "0x42534947 verdict no (verify only)"
+abbrev pub verifySignature : Command
+verifySignature =
+    record {
+      known = true;
+      lengthOk = λ b. eqb (length b) 196;
+      rules = λ v r. refuses number.badSignature (not (r .verdict)) ∷ [];
+      task = λ r. noStores;
+      answer = λ r. [];
+    }
+
+abbrev pub unknownCommand : Command
+unknownCommand = record { known = false; lengthOk = λ b. false; rules = λ v r. []; task = λ r. noStores; answer = λ r. [] }
+
+abbrev pub commandOf : ℕ → Command
+commandOf code =
+    cond (eqb code stashCode) stashMeasurement
+    (cond (eqb code disableCode) disableAttestation
+    (cond (eqb code identityCode) identityKey
+    (cond (eqb code verifyCode) verifySignature unknownCommand)))
+
+-- ---- the entries' orders
+
+-- "The answer's checksum is made the same way, with the same code. The next answer word is FIPS status, always 0."
+unfoldable pub answerOf : ℕ → List ℕ → List ℕ
+answerOf code rest = bytes4 (checksumOf code (bytes4 0 ++ rest)) ++ (bytes4 0 ++ rest)
+
+-- a declined request stores nothing, and its dpe result is in the answer
+abbrev pub declined : Request → ℕ → Ruling
+declined r n = accepted noStores (answerOf (r .code) (bytes4 n))
+
+-- what a command comes to where no rule applies
+abbrev pub served : Command → Request → Ruling
+served c r = accepted (c .task r) (answerOf (r .code) (c .answer r))
+
+-- "4 wrong request length; 0x4243484B bad checksum; .." and then the command's own
+abbrev pub commandRules : Command → View → Request → List Rule
+commandRules c v r =
+    refuses number.wrongLength (not (c .lengthOk (r .bytes))) ∷ refuses number.badChecksum (badChecksum (r .code) (r .bytes)) ∷ c .rules v r
+
+-- "request: .. 2 mark not 1; 3 unknown code; .."
+abbrev pub requestRules : View → Request → List Rule
+requestRules v r =
+    let c = commandOf (r .code) in
+    refuses number.unfinished (not (v .done)) ∷ refuses number.unknownCode (not (c .known)) ∷ commandRules c v r
+
+-- what a request comes to by a list of rules
+abbrev pub requestRuling : List Rule → Request → Ruling
+requestRuling rules r = decide rules (declined r) (served (commandOf (r .code)) r)
+
+-- "boot: .. 6 digest or secret not 48 bytes, or secret all zero"
+unfoldable pub inputsOk : BootInputs → Bool
+inputsOk x = eqb (length (x .digest)) 48 && (eqb (length (x .secret)) 48 && not (allBelow 48 (λ k. eqb (getD (x .secret) k 0) 0)))
+
+abbrev pub bootRules : BootInputs → List Rule
+bootRules x = refuses number.wrongInputs (not (inputsOk x)) ∷ []
+
+-- what a boot comes to by a list of rules; "A boot's answer has no bytes."
+abbrev pub bootRuling : List Rule → Task → Ruling
+bootRuling rules t = decide rules refused (accepted t [])
+
+-- an update boot's task: a disabling where anything is amiss, "Else ROM's verdict no: kept", else the update
+abbrev pub updateTask : Bool → Bool → BootInputs → Task
+updateTask intact verdict x = cond intact (cond verdict (update x) keptBoot) disablingBoot
