@@ -12,34 +12,32 @@ use Rattle.layout.specs.Below.{allBelow}
 use Rattle.work.specs.Table.{numberOf}
 use Rattle.work.specs.Entries.{leftOf}
 use Rattle.work.specs.declared.Kind.the-variants.{Disabling, Update}
-use Rattle.opening.specs.Tasks.{Task, coldBoot, inputsOk}
-use Rattle.opening.specs.Works.{workAt}
-use Rattle.opening.specs.Openings.{openColdBoot}
-use Rattle.opening.specs.declared.Outcome.the-variants.{Cold}
-use Rattle.opening.specs.declared.BootStatus.the-variants as bootStatus
-use Rattle.history.specs.Calls.{Call, updateBoot, store, powerCut, Hand, Machine, Step, step, run, afterColdBoot}
-use Rattle.history.specs.Ledger.{Ledger, storesOf, letGo, ledgerStep, ledgerRun, firstLedger}
-use Rattle.history.specs.Demand.{Shut, wasAccepted, bootEnded, endsBoot}
+use Rattle.opening.specs.Tasks.{BootInputs, bootOf, Task}
+use Rattle.opening.specs.Rules.{inputsOk}
+use Rattle.opening.specs.Openings.{openColdBoot, bootNumber}
+use Rattle.history.specs.Calls.{Call, updateBoot, store, powerCut, Hand, Machine, Step, step, run}
+use Rattle.history.specs.Ledger.{Job, Ledger, letGo, ledgerStep, ledgerRun, firstLedger}
+use Rattle.history.specs.Demand.{Shut, wasAccepted, bootEnded, endsBoot, afterColdBoot}
 use Rattle.history.proofs.Ground.{isBoot}
-use Rattle.history.proofs.Sim.{Inv, empty, done, going, Together, underway-left, sim, sim-run}
+use Rattle.history.proofs.Sim.{Inv, empty, done, going, Together, carried-left, sim, sim-run}
 use Rattle.history.proofs.Demand.{cold-start, demand3}
 
 -- ---- the premise, seen from the ledger
 
-abbrev ledgerEnded : Option Task → ℕ → Bool
+abbrev ledgerEnded : Option Job → ℕ → Bool
 ledgerEnded none k = false
-ledgerEnded (some t) k = isBoot t && eqb (storesOf t - k) 0
+ledgerEnded (some j) k = isBoot (j .task) && eqb (j .stores - k) 0
 
 abbrev ledgerEnds : Step Ledger → Bool
 ledgerEnds b = wasAccepted (b .result) && ledgerEnded (b .state .hand) (b .state .made)
 
-ended-same : {l : List ℕ} {w : Option Hand} {h : List Task} {d : Option Task} {k : ℕ} {t u : Bool} → Inv l w h d k t u → bootEnded w ≡ ledgerEnded d k
+ended-same : {l : List ℕ} {w : Option Hand} {h : List Task} {d : Option Job} {k : ℕ} {t u : Bool} → Inv l w h d k t u → bootEnded w ≡ ledgerEnded d k
 ended-same (empty g) = refl
-ended-same (done {p = p} {tk = tk} {k} g e n b) =
-    let z : storesOf tk - k ≡ 0 = omega arith in
-    λ i. b i && eqb ((n ∙ sym z) i) 0
-ended-same (going {p = p} {tk = tk} {k} base v g f w q x y b) =
-    let z : leftOf (p .work) ≡ storesOf tk - k = underway-left (p .work) tk base k w (omega arith) in
+ended-same (done {p = p} {j = j} {k} g e c b) =
+    let z : leftOf (p .work) ≡ j .stores - k = carried-left (p .work) j k c (omega arith) in
+    λ i. b i && eqb (z i) 0
+ended-same (going {p = p} {j = j} {k} base v g f w n q x y b) =
+    let z : leftOf (p .work) ≡ j .stores - k = carried-left (p .work) j k (w .carried) (omega arith) in
     λ i. b i && eqb (z i) 0
 
 ends-same : (m : Step Machine) (b : Step Ledger) → Together m b → endsBoot m ≡ ledgerEnds b
@@ -47,59 +45,48 @@ ends-same m b x = λ i. wasAccepted (x .result i) && ended-same (x .related) i
 
 -- ---- concrete inputs: document 01's program
 
-pub digest : List ℕ
-digest = replicate 48 0x11
+pub inputs : BootInputs
+inputs = bootOf (replicate 48 0x11) (replicate 48 0x22)
 
-pub secret : List ℕ
-secret = replicate 48 0x22
-
-pub cold-opens : (before : List ℕ) → length before ≡ imageWords
-    → openColdBoot before digest secret ≡ record { work = workAt before (coldBoot digest secret) []; status = bootStatus.Ready Cold }
-unfolding openColdBoot inputsOk allBelow digest secret
+cold-opens : (before : List ℕ) → length before ≡ imageWords → bootNumber (openColdBoot before inputs .status) ≡ 0
+unfolding openColdBoot inputsOk allBelow inputs
 cold-opens before e = rw e
 
 -- an update that runs to its end, but for the last store
 pub whole-calls : List Call
-whole-calls = updateBoot digest secret true ∷ replicate (numberOf (Update 0) - 1) store
+whole-calls = updateBoot inputs true ∷ replicate (numberOf (Update 0) - 1) store
 
 -- an update that is cut after its first store; then a boot, but for its last store
 pub torn-calls : List Call
-torn-calls = updateBoot digest secret true ∷ store ∷ powerCut ∷ updateBoot digest secret true ∷ replicate (numberOf Disabling - 1) store
-
-pub start : List ℕ → Machine
-start before = afterColdBoot before (workAt before (coldBoot digest secret) [])
+torn-calls = updateBoot inputs true ∷ store ∷ powerCut ∷ updateBoot inputs true ∷ replicate (numberOf Disabling - 1) store
 
 module _ (before : List ℕ) (e : length before ≡ imageWords) where
-  ends : (calls : List Call) (c : Call) → ledgerEnds (ledgerStep (ledgerRun (firstLedger digest secret) calls) c) ≡ true
-      → endsBoot (step (run (start before) calls) c) ≡ true
-  unfolding start
+  ends : (calls : List Call) (c : Call) → ledgerEnds (ledgerStep (ledgerRun (firstLedger inputs) calls) c) ≡ true
+      → endsBoot (step (run (afterColdBoot before inputs) calls) c) ≡ true
   ends calls c q =
-      ends-same (step (run (start before) calls) c) (ledgerStep (ledgerRun (firstLedger digest secret) calls) c)
-      (sim (run (start before) calls) (ledgerRun (firstLedger digest secret) calls) c
-      (sim-run calls (start before) (firstLedger digest secret)
-      (cold-start before digest secret (workAt before (coldBoot digest secret) []) (cold-opens before e))))
+      ends-same (step (run (afterColdBoot before inputs) calls) c) (ledgerStep (ledgerRun (firstLedger inputs) calls) c)
+      (sim (run (afterColdBoot before inputs) calls) (ledgerRun (firstLedger inputs) calls) c
+      (sim-run calls (afterColdBoot before inputs) (firstLedger inputs) (cold-start before inputs (cold-opens before e))))
       ∙ q
 
   -- a boot that is kept ends at its opening
-  pub kept-ends : endsBoot (step (run (start before) []) (updateBoot digest secret false)) ≡ true
-  unfolding ledgerStep letGo inputsOk allBelow digest secret
-  kept-ends = ends [] (updateBoot digest secret false) refl
+  pub kept-ends : endsBoot (step (run (afterColdBoot before inputs) []) (updateBoot inputs false)) ≡ true
+  unfolding ledgerStep letGo inputsOk allBelow inputs numberOf
+  kept-ends = ends [] (updateBoot inputs false) refl
 
-  pub whole-ends : endsBoot (step (run (start before) whole-calls) store) ≡ true
-  unfolding ledgerStep letGo inputsOk allBelow digest secret whole-calls numberOf
+  pub whole-ends : endsBoot (step (run (afterColdBoot before inputs) whole-calls) store) ≡ true
+  unfolding ledgerStep letGo inputsOk allBelow inputs whole-calls numberOf
   whole-ends = ends whole-calls store refl
 
-  pub torn-ends : endsBoot (step (run (start before) torn-calls) store) ≡ true
-  unfolding ledgerStep letGo inputsOk allBelow digest secret torn-calls numberOf
+  pub torn-ends : endsBoot (step (run (afterColdBoot before inputs) torn-calls) store) ≡ true
+  unfolding ledgerStep letGo inputsOk allBelow inputs torn-calls numberOf
   torn-ends = ends torn-calls store refl
 
   -- what demand 3 says there: attestation is on after the one, and shut for good after the other
-  pub whole-on : getD (step (run (start before) whole-calls) store .state .image) attestationAt 0 ≡ 1
-  unfolding start ledgerStep letGo inputsOk allBelow digest secret whole-calls numberOf
-  whole-on =
-      demand3 before digest secret (workAt before (coldBoot digest secret) []) (cold-opens before e) whole-calls .kept store whole-ends .on refl .1 refl
+  pub whole-on : getD (step (run (afterColdBoot before inputs) whole-calls) store .state .image) attestationAt 0 ≡ 1
+  unfolding ledgerStep letGo inputsOk allBelow inputs whole-calls numberOf
+  whole-on = demand3 before inputs (cold-opens before e) whole-calls .kept store whole-ends .on refl .1 refl
 
-  pub torn-shut : (later : List Call) → Shut (run (step (run (start before) torn-calls) store .state) later .image)
-  unfolding start ledgerStep letGo inputsOk allBelow digest secret torn-calls numberOf
-  torn-shut later =
-      demand3 before digest secret (workAt before (coldBoot digest secret) []) (cold-opens before e) torn-calls .shut store torn-ends refl later
+  pub torn-shut : (later : List Call) → Shut (run (step (run (afterColdBoot before inputs) torn-calls) store .state) later .image)
+  unfolding ledgerStep letGo inputsOk allBelow inputs torn-calls numberOf
+  torn-shut later = demand3 before inputs (cold-opens before e) torn-calls .shut store torn-ends refl later

@@ -1,7 +1,7 @@
--- Demand 3: every list of calls and power cuts. Assumes nothing.
+-- Demand 3: every list of calls and power cuts. A cold boot's stores make the first Ground (`cold-start`); by Sim machine and ledger stay in step; what
+-- Ground says of the image is the promise, and once it is shut no store opens it (`shut-run`). Assumes nothing.
 use mathlib.Core.Path.{_≡_, refl, sym, ap, _∙_, subst}
-use Prim.Native.Nat.{ℕ, zero, suc, _+_, _-_, _*_, _<_, zero-le}
-use native.Mathlib.Nat.{not-suc-le-zero}
+use Prim.Native.Nat.{ℕ, suc, _+_, _-_, _*_, _<_, zero-le}
 use native.Mathlib.Omega.{arith}
 use mathlib.Core.Bool.{Bool, true, false, cond, not, _||_, true≢false, false≢true}
 use mathlib.Core.List.{List, [], _∷_, _++_}
@@ -9,37 +9,41 @@ use mathlib.Core.Option.{Option, none, some}
 use lib.Dec.{eqb, ltb}
 use borrow.Author.Tests.{eqb-true}
 use lib.ListN.{length, getD, set, take, drop}
-use lib.Seq.{take-all}
-use Rattle.layout.specs.Sizes.{imageWords, markAt, attestationAt, secretAt, registersAt, nodesAt, registerCount, registerWords}
+use Rattle.layout.specs.Sizes.{imageWords, markAt, attestationAt, secretAt, registersAt, nodesAt, registerCount, registerWords, answerMax}
 use Rattle.layout.specs.Words.{words48, part}
+use Rattle.layout.specs.Refusals as number
 use Rattle.layout.proofs.Cases.{and-right}
-use Rattle.work.specs.Table.{put, indexOk, putOf}
-use Rattle.work.specs.Entries.{leftOf, moved, storeResult, storeImage}
+use Rattle.tree.specs.Nodes.{treeIn}
+use Rattle.work.specs.Table.{put, numberOf, indexOk, putOf}
+use Rattle.work.specs.Entries.{wellShaped, leftOf, moved, storeResult, storeImage, allStores}
+use Rattle.work.specs.Made.{workWith}
 use Rattle.work.specs.declared.Put.{Put}
 use Rattle.work.specs.declared.Work.{Work}
-use Rattle.opening.specs.Tasks.{Task, noStores, keptBoot, disableCommand, disablingBoot, stash, update, coldBoot, Ruling, refused, accepted, inputsOk}
-use Rattle.opening.specs.Works.{workAt, coldWork}
-use Rattle.opening.specs.Openings.{bootedOf, openColdBoot, openRequest, openUpdateBoot}
-use Rattle.opening.specs.declared.Outcome.the-variants.{Cold}
+use Rattle.work.proofs.Plans.{apply, length-apply, put-plan}
+use Rattle.work.proofs.After.{store-made, store-refused, all-made}
+use Rattle.opening.specs.Tasks.{BootInputs, Task, coldBoot, Ruling, refused, accepted}
+use Rattle.opening.specs.Rules.{inputsOk}
+use Rattle.opening.specs.Works.{factsOf, workAt}
+use Rattle.opening.specs.Openings.{bootedOf, openColdBoot, openRequest, openUpdateBoot, bootNumber, storedBy, coldBooted}
 use Rattle.opening.specs.declared.Status.{Status}
 use Rattle.opening.specs.declared.Status.the-variants as status
 use Rattle.opening.specs.declared.BootStatus.{BootStatus}
 use Rattle.opening.specs.declared.BootStatus.the-variants as bootStatus
 use Rattle.opening.specs.declared.Booted.{Booted}
-use Rattle.history.specs.Calls.{Call, request, updateBoot, store, powerCut, refusal, stored, Hand, Machine, Step, afterRequest, afterBoot, afterStore, step, run, results, storeAll, afterColdBoot}
-use Rattle.history.specs.Ledger.{State, Ledger, blank, next, stateOf, registerRows, nodeRows, imageOf, storesOf, any, disables, isDisableCommand, isOff, tears, viewOf, letGo, ledgerRequest, ledgerBoot, bootRuling, ledgerStore, ledgerStep, ledgerRun, ledgerResults, firstLedger}
-use Rattle.history.specs.Demand.{Shut, wasAccepted, bootEnded, endsBoot, AsCounted, Kept, isUnderWay, Holds, Demand3}
+use Rattle.history.specs.Calls.{Call, request, updateBoot, store, answer, powerCut, refusal, stored, Hand, Machine, Step, afterRequest, afterBoot, afterStore, step, run, results}
+use Rattle.history.specs.Ledger.{State, treeAt, Job, Ledger, blank, next, stateOf, chainOf, registerRows, nodeRows, imageOf, any, disables, isDisableCommand, isOff, tears, viewOf, letGo, ledgerRequest, ledgerBoot, updateRuling, ledgerStore, ledgerStep, ledgerRun, ledgerResults, firstLedger}
+use Rattle.history.specs.Demand.{Shut, wasAccepted, bootEnded, endsBoot, AsCounted, Kept, isUnderWay, Holds, afterColdBoot, Demand3}
 use Rattle.history.proofs.Encoded.{mark-read, attestation-read, secret-read}
 use Rattle.history.proofs.Good.{Good, good-cold}
-use Rattle.history.proofs.Plans.{apply, length-apply, put-plan}
 use Rattle.history.proofs.Stores.{registers-part, nodes-part}
-use Rattle.history.proofs.Runs.{planAt, length-at, offPlan, command-plan, boot-plan, shut-store, counted, run-cold}
-use Rattle.history.proofs.Ground.{Ground, sound, locked, broken, attestationWord, imageAfter, Fits, ground-length, ruling}
-use Rattle.history.proofs.Sim.{release, Underway, underway-start, underway-moved, underway-left, store-made, store-refused, next-image, Inv, empty, done, going, Related, sim, sim-run}
+use Rattle.history.proofs.Runs.{planAt, offPlan, shut-store, counted, run-cold}
+use Rattle.history.proofs.Laws.{laws}
+use Rattle.history.proofs.Ground.{Ground, sound, locked, broken, attestationWord, imageAfter, Fits, storesAt, ground-length, ruling}
+use Rattle.history.proofs.Sim.{release, Carried, carried-left, Underway, Inv, empty, done, going, Related, sim, sim-run}
 
 -- ---- between works the image keeps the promise
 
-module _ (l : List ℕ) (h : List Task) (g : Good (stateOf h)) (e : l ≡ imageAfter h) where
+module _ (l : List ℕ) (h : List Task) (g : Good (stateOf h .chain)) (e : l ≡ imageAfter h) where
   attestation-word : getD l attestationAt 0 ≡ attestationWord (any disables h)
   attestation-word = ap (λ (y : List ℕ). getD y attestationAt 0) e ∙ attestation-read 1 (attestationWord (any disables h)) (stateOf h)
 
@@ -47,9 +51,9 @@ module _ (l : List ℕ) (h : List Task) (g : Good (stateOf h)) (e : l ≡ imageA
   counted-sound b p q u =
       record {
         mark = ap (λ (y : List ℕ). getD y markAt 0) e ∙ mark-read 1 a s ∙ sym (rw u);
-        attestation = attestation-word ∙ word-off (any disables h) ∙ sym (rw (q, p));
-        registers = ap (λ (y : List ℕ). take (registerCount * registerWords) (drop registersAt y)) e ∙ registers-part 1 a s (counted s g) ∙ ap (λ (y : List Task). registerRows (stateOf y)) (sym p);
-        nodes = ap (drop nodesAt) e ∙ nodes-part 1 a s (counted s g) ∙ ap (λ (y : List Task). nodeRows (stateOf y)) (sym p);
+        attestation = attestation-word ∙ sym (rw (q, p));
+        registers = ap (λ (y : List ℕ). take (registerCount * registerWords) (drop registersAt y)) e ∙ registers-part 1 a s (counted (s .chain) g) ∙ ap (λ (y : List Task). registerRows (stateOf y .chain)) (sym p);
+        nodes = ap (drop nodesAt) e ∙ nodes-part 1 a s (counted (s .chain) g) ∙ ap (λ (y : List Task). nodeRows (stateOf y .chain)) (sym p);
         secret = ap (λ (y : List ℕ). part registerWords y secretAt) e ∙ secret-read 1 a s ∙ ap (λ (y : List Task). words48 (stateOf y .secret)) (sym p);
       }
     where
@@ -58,10 +62,6 @@ module _ (l : List ℕ) (h : List Task) (g : Good (stateOf h)) (e : l ≡ imageA
 
       s : State
       s = stateOf h
-
-      word-off : (x : Bool) → attestationWord x ≡ cond x 0 1
-      word-off true = refl
-      word-off false = refl
 
 counted-ground : {l : List ℕ} {b : Ledger} {h : List Task} {t u : Bool} → Ground l h t u → b .history ≡ h → b .torn ≡ t → b .unfinished ≡ u → t ≡ false → AsCounted l b
 counted-ground {l} {b} {h} (sound g o e) p q r z = counted-sound l h g e b p q r
@@ -96,13 +96,13 @@ at-rest m b i q v = counted-ground {b = b} (release i) refl (q ∙ sym none-torn
 
 -- ---- where an update boot ends, no work is in its middle
 
-settled : {l : List ℕ} {w : Option Hand} {h : List Task} {d : Option Task} {k : ℕ} {t u : Bool} → Inv l w h d k t u → bootEnded w ≡ true
+settled : {l : List ℕ} {w : Option Hand} {h : List Task} {d : Option Job} {k : ℕ} {t u : Bool} → Inv l w h d k t u → bootEnded w ≡ true
     → Ground l h t u × (u ≡ false)
 settled (empty g) e = absurd (false≢true e)
-settled (done g a b c) e = (g, refl)
-settled (going {p = p} {tk = tk} {k} base v g f w q x y b) e =
+settled (done g a c b) e = (g, refl)
+settled (going {p = p} {j = j} {k} base v g f w n q x y b) e =
     let z : leftOf (p .work) ≡ 0 = eqb-true (leftOf (p .work)) 0 (and-right (p .boot) (eqb (leftOf (p .work)) 0) e) in
-    absurd (omega (arith, underway-left (p .work) tk base k w (omega arith)))
+    absurd (omega (arith, carried-left (p .work) j k (w .carried) (omega arith)))
 
 -- ---- torn and shut: for good
 
@@ -115,40 +115,33 @@ boot-image : (m : Machine) (w : Work) (s : BootStatus) → afterBoot m w s .stat
 boot-image m w (bootStatus.Ready o) = refl
 boot-image m w (bootStatus.Refused n) = refl
 
--- once torn, only a disabling has stores
-torn-plan : (h : List Task) (u : Bool) (tk : Task) (base : List ℕ) → Fits h true u tk → 0 < storesOf tk → planAt base tk ≡ offPlan
-torn-plan h u noStores base f p = absurd (not-suc-le-zero p)
-torn-plan h u keptBoot base f p = absurd (not-suc-le-zero p)
-torn-plan h u disableCommand base f p = command-plan base
-torn-plan h u disablingBoot base f p = boot-plan base
-torn-plan h u (stash ty d svn c) base f p = absurd (true≢false (f .0))
-torn-plan h u (update d s) base f p = absurd (true≢false f)
-torn-plan h u (coldBoot d s) base f p = absurd f
-
-shut-one : {l : List ℕ} {w : Option Hand} {h : List Task} {d : Option Task} {k : ℕ} {t u : Bool} → Inv l w h d k t u → t ≡ true → Shut l
+shut-one : {l : List ℕ} {w : Option Hand} {h : List Task} {d : Option Job} {k : ℕ} {t u : Bool} → Inv l w h d k t u → t ≡ true → Shut l
     → Shut (afterStore (record { image = l; hand = w }) w .state .image)
 shut-one (empty g) q s = s
-shut-one (done {l} {p} g e n b) q s = subst Shut (sym (store-refused (p .work) l (ground-length g) n .1)) s
-shut-one (going {l} {p} {h} {tk} {k} {t} base v g f w x e c b) q s =
-    subst Shut (sym (store-made (p .work) l len (omega (arith, underway-left (p .work) tk base k w (omega arith))) .1))
-    (subst (λ (z : Put). Shut (set l (z .address) (z .value))) (sym place) (shut-store k l (omega (arith, ap length plans, length-at base tk)) s))
+shut-one (done {l} {p} {j = j} {k} g e c b) q s =
+    subst Shut (sym (store-refused (p .work) l (ground-length g) (omega (arith, carried-left (p .work) j k c (omega arith))) .1)) s
+shut-one (going {l} {p} {h} {j} {k} {t} base v g f w n x e c b) q s =
+    subst Shut (sym (store-made (p .work) l len (omega (arith, carried-left (p .work) j k (w .carried) (omega arith))) .1))
+    (subst (λ (z : Put). Shut (set l (z .address) (z .value))) (sym place) (shut-store k l (omega (arith, ap length plans, w .count)) s))
   where
     len : length l ≡ imageWords
-    len = ap length e ∙ length-apply (take k (planAt base tk)) base ∙ ground-length g
+    len = ap length e ∙ length-apply (take k (planAt base (j .task))) base ∙ ground-length g
 
-    plans : planAt base tk ≡ offPlan
-    plans = torn-plan h v tk base (subst (λ (z : Bool). Fits h z v tk) q f) (omega arith)
+    -- once torn, only a disabling has stores
+    plans : planAt base (j .task) ≡ offPlan
+    plans = laws (j .task) .off (f .torn q .quiet (treeAt (stateOf h .chain)) (omega (arith, n))) base
 
     place : putOf (p .work) ≡ getD offPlan k (put 0 0)
-    place = put-plan (p .work) ∙ (λ i. getD ((w .stores ∙ plans) i) (w .position i) (put 0 0))
+    place = put-plan (p .work) ∙ (λ i. getD ((w .plans ∙ plans) i) (w .carried .position i) (put 0 0))
 
 shut-step : (m : Machine) (b : Ledger) (c : Call) → Related m b → b .torn ≡ true → Shut (m .image) → Shut (step m c .state .image)
 unfolding step
 shut-step m b (request r) i q s =
     subst Shut (sym (request-image m (openRequest (m .image) r .work) (openRequest (m .image) r .status))) s
-shut-step m b (updateBoot d t v) i q s =
-    subst Shut (sym (boot-image m (openUpdateBoot (m .image) d t v .work) (openUpdateBoot (m .image) d t v .status))) s
+shut-step m b (updateBoot x v) i q s =
+    subst Shut (sym (boot-image m (openUpdateBoot (m .image) x v .work) (openUpdateBoot (m .image) x v .status))) s
 shut-step m b store i q s = shut-one i q s
+shut-step m b (answer a) i q s = s
 shut-step m b powerCut i q s = s
 
 torn-request : (b : Ledger) (R : Ruling) → b .torn ≡ true → ledgerRequest b R .state .torn ≡ true
@@ -162,30 +155,31 @@ torn-boot b (refused n) q = q
 torn-boot b (accepted t a) q = rw q
 
 -- a store makes one more, or is refused
-pub store-cases : (P : Step Ledger → Type 0) (b : Ledger) (t : Task)
+pub store-cases : (P : Step Ledger → Type 0) (b : Ledger) (j : Job)
     → ((h : List Task) (u : Bool) (n : ℕ)
-    → P (record { state = record { history = h; hand = some t; made = suc (b .made); torn = b .torn; unfinished = u }; result = stored n }))
-    → P (record { state = b; result = refusal 9 }) → P (ledgerStore b (some t))
-store-cases P b t more none-left = go (ltb (b .made) (storesOf t)) (eqb (suc (b .made)) (storesOf t))
+    → P (record { state = record { history = h; hand = some j; made = suc (b .made); torn = b .torn; unfinished = u }; result = stored n }))
+    → P (record { state = b; result = refusal number.noStoreLeft }) → P (ledgerStore b (some j))
+store-cases P b j more none-left = go (ltb (b .made) (j .stores)) (eqb (suc (b .made)) (j .stores))
   where
     made : List Task → Bool → ℕ → Step Ledger
-    made h u n = record { state = record { history = h; hand = some t; made = suc (b .made); torn = b .torn; unfinished = u }; result = stored n }
+    made h u n = record { state = record { history = h; hand = some j; made = suc (b .made); torn = b .torn; unfinished = u }; result = stored n }
 
     go : (x y : Bool)
-        → P (cond x (cond y (made (b .history ++ (t ∷ [])) false 0) (made (b .history) true (storesOf t - suc (b .made)))) (record { state = b; result = refusal 9 }))
-    go true true = more (b .history ++ (t ∷ [])) false 0
-    go true false = more (b .history) true (storesOf t - suc (b .made))
+        → P (cond x (cond y (made (b .history ++ (j .task ∷ [])) false 0) (made (b .history) true (j .stores - suc (b .made)))) (record { state = b; result = refusal number.noStoreLeft }))
+    go true true = more (b .history ++ (j .task ∷ [])) false 0
+    go true false = more (b .history) true (j .stores - suc (b .made))
     go false y = none-left
 
-torn-store : (b : Ledger) (d : Option Task) → b .torn ≡ true → ledgerStore b d .state .torn ≡ true
+torn-store : (b : Ledger) (d : Option Job) → b .torn ≡ true → ledgerStore b d .state .torn ≡ true
 torn-store b none q = q
 torn-store b (some t) q = store-cases (λ (x : Step Ledger). x .state .torn ≡ true) b t (λ h u n. q) q
 
 torn-stays : (b : Ledger) (c : Call) → b .torn ≡ true → ledgerStep b c .state .torn ≡ true
 unfolding ledgerStep letGo ruling
 torn-stays b (request r) q = torn-request b (ruling (viewOf (b .history) (b .torn) (b .unfinished)) r) q
-torn-stays b (updateBoot d s v) q = torn-boot b (bootRuling b d s v) q
+torn-stays b (updateBoot x v) q = torn-boot b (updateRuling b x v) q
 torn-stays b store q = torn-store b (b .hand) q
+torn-stays b (answer a) q = q
 torn-stays b powerCut q = rw q
 
 shut-run : (cs : List Call) (m : Machine) (b : Ledger) → Related m b → b .torn ≡ true → Shut (m .image) → Shut (run m cs .image)
@@ -195,57 +189,40 @@ shut-run (c ∷ cs) m b i q s =
 
 -- ---- the start: all stores of a cold boot
 
-all-stores : (n k : ℕ) (w : Work) (tk : Task) (base : List ℕ) → length base ≡ imageWords → Underway w tk base k → k + n ≡ storesOf tk
-    → storeAll n w (apply (take k (planAt base tk)) base) ≡ apply (planAt base tk) base
-all-stores zero k w tk base e u h = ap (λ (ps : List Put). apply ps base) (take-all k (planAt base tk) (omega (arith, length-at base tk)))
-all-stores (suc n) k w tk base e u h =
-    (λ i. storeAll n (one .0 i .work) (one .1 i))
-    ∙ ap (storeAll n (moved w)) (next-image w tk base k u (omega arith))
-    ∙ all-stores n (suc k) (moved w) tk base e (underway-moved u) (omega arith)
-  where
-    l : List ℕ
-    l = apply (take k (planAt base tk)) base
+cold-shaped : (before : List ℕ) (x : BootInputs) → wellShaped (workAt before (coldBoot x) []) ≡ true
+unfolding wellShaped workAt workWith indexOk numberOf
+cold-shaped before x = refl
 
-    one : (storeResult w l ≡ record { number = 0; work = moved w }) × (storeImage w l ≡ set l (putOf w .address) (putOf w .value))
-    one = store-made w l (length-apply (take k (planAt base tk)) base ∙ e) (omega (arith, underway-left w tk base k u (omega arith)))
+cold-position : (before : List ℕ) (x : BootInputs) → workAt before (coldBoot x) [] .position ≡ 0
+unfolding workAt workWith
+cold-position before x = refl
 
-opened-cold : (before d s : List ℕ) (w : Work) → openColdBoot before d s ≡ record { work = w; status = bootStatus.Ready Cold }
-    → (length before ≡ imageWords) × (workAt before (coldBoot d s) [] ≡ w)
-unfolding openColdBoot
-opened-cold before d s w e = go (eqb (length before) imageWords) refl (inputsOk d s) e
-  where
-    go : (x : Bool) → eqb (length before) imageWords ≡ x → (y : Bool)
-        → bootedOf before (cond (not x) (refused 1) (cond (not y) (refused 6) (accepted (coldBoot d s) []))) ≡ record { work = w; status = bootStatus.Ready Cold }
-        → (length before ≡ imageWords) × (workAt before (coldBoot d s) [] ≡ w)
-    go true p true q = (eqb-true (length before) imageWords p, ap (λ (o : Booted). o .work) q)
-    go true p false q = let r : bootStatus.Refused 6 ≡ bootStatus.Ready Cold = ap (λ (o : Booted). o .status) q in let z : _≡_ {A = ℕ} 0 1 = cc in absurd (omega arith)
-    go false p y q = let r : bootStatus.Refused 1 ≡ bootStatus.Ready Cold = ap (λ (o : Booted). o .status) q in let z : _≡_ {A = ℕ} 0 1 = cc in absurd (omega arith)
-
-cold-index : (before d s : List ℕ) → indexOk (workAt before (coldBoot d s) [] .kind) ≡ true
-unfolding indexOk workAt coldWork
-cold-index before d s = refl
-
-cold-ground : (d s l : List ℕ) → l ≡ imageOf 1 1 (next blank (coldBoot d s)) → Ground l (coldBoot d s ∷ []) false false
+cold-history : (x : BootInputs) → stateOf (coldBoot x ∷ []) ≡ next blank (coldBoot x)
 unfolding stateOf
-cold-ground d s l e = sound (good-cold blank d s) refl e
+cold-history x = refl
 
-pub cold-start : (before d s : List ℕ) (w : Work) → openColdBoot before d s ≡ record { work = w; status = bootStatus.Ready Cold }
-    → Related (afterColdBoot before w) (firstLedger d s)
-cold-start before d s w e =
-    subst (λ (z : Work). Related (afterColdBoot before z) (firstLedger d s)) (opened-cold before d s w e .1)
-    (empty (cold-ground d s (storeAll (leftOf cold) cold before) (all-stores (leftOf cold) 0 cold (coldBoot d s) before long fresh full ∙ run-cold blank d s before before long)))
+pub cold-start : (before : List ℕ) (x : BootInputs) → bootNumber (openColdBoot before x .status) ≡ 0 → Related (afterColdBoot before x) (firstLedger x)
+unfolding openColdBoot coldBooted planAt
+cold-start before x e = go (eqb (length before) imageWords) refl (inputsOk x) e
   where
     cold : Work
-    cold = workAt before (coldBoot d s) []
+    cold = workAt before (coldBoot x) []
 
-    long : length before ≡ imageWords
-    long = opened-cold before d s w e .0
+    image : length before ≡ imageWords → allStores cold before .image ≡ imageAfter (coldBoot x ∷ [])
+    image size =
+        all-made before size cold (cold-shaped before x) (cold-position before x)
+        ∙ run-cold blank x before before size
+        ∙ ap (imageOf 1 1) (sym (cold-history x))
 
-    fresh : Underway cold (coldBoot d s) before 0
-    fresh = underway-start before (coldBoot d s) [] (cold-index before d s) zero-le
-
-    full : 0 + leftOf cold ≡ storesOf (coldBoot d s)
-    full = omega (arith, underway-left cold (coldBoot d s) before 0 fresh zero-le)
+    -- the image's size, and the inputs
+    go : (a : Bool) → eqb (length before) imageWords ≡ a → (b : Bool)
+        → bootNumber (bootedOf before (cond (not a) (refused number.wrongImage) (cond (not b) (refused number.wrongInputs) (accepted (coldBoot x) []))) .status) ≡ 0
+        → (let o = bootedOf before (cond (not a) (refused number.wrongImage) (cond (not b) (refused number.wrongInputs) (accepted (coldBoot x) []))) in
+        Inv (storedBy before (o .work) (o .status)) none (coldBoot x ∷ []) none 0 false false)
+    go true p true q =
+        empty (sound (subst (λ (y : State). Good (y .chain)) (sym (cold-history x)) (good-cold (blank .chain) x)) refl (image (eqb-true (length before) imageWords p)))
+    go true p false q = absurd (omega arith)
+    go false p b q = absurd (omega arith)
 
 -- ---- demand 3
 
@@ -275,4 +252,4 @@ holds m b start calls =
     now = sim-run calls m b start
 
 pub demand3 : Demand3
-demand3 before d s w e calls = holds (afterColdBoot before w) (firstLedger d s) (cold-start before d s w e) calls
+demand3 before x e calls = holds (afterColdBoot before x) (firstLedger x) (cold-start before x e) calls

@@ -1,62 +1,51 @@
--- What holds of registers and nodes after every history: their sizes, and a tree with one holder whose root has PCR3 as its current measurement. A cold
--- boot makes it, every other counted work keeps it, and the image of such a state is well formed. Assumes nothing.
-use mathlib.Core.Path.{_≡_, refl, sym, ap, _∙_, subst}
+-- What holds of the chain after every history: sizes, a well-formed tree whose root has PCR3 as its current measurement, and cumulative measurements of 48
+-- bytes. A cold boot makes it; a stash and an update keep it, by the laws of any well-formed tree. Assumes nothing.
+use mathlib.Core.Path.{_≡_, refl, sym, ap, _∙_, subst, fun-ext}
 use mathlib.Core.Logic.{_≢_}
-use Prim.Native.Nat.{ℕ, zero, suc, _+_, _≤_, _<_}
+use Prim.Native.Nat.{ℕ, zero, suc, _+_, _-_, _<_}
 use native.Mathlib.Omega.{arith}
-use native.Mathlib.Decide.{ℕ-discrete}
-use mathlib.Core.Bool.{true}
+use native.Mathlib.Decide.{ℕ-discrete, decLt}
+use mathlib.Core.Bool.{Bool, true, true≢false}
 use mathlib.Core.List.{List, []}
 use mathlib.Core.Option.{Option, none, some, Option·none-ne-some}
 use borrow.Author.Tests.{eq-eqb}
 use lib.Dec.{eqb}
 use lib.Seq.{getD-set-same, getD-set-other}
-use lib.ListN.{length, getD, set, replicate, length-set, length-replicate, getD-replicate}
-use Rattle.layout.specs.Sizes.{nodeCount, registerCount, registerWords, registerAt, currentAt, currentRegister, journeyRegister, stashRegister, rootMark}
+use lib.ListN.{length, getD, set, replicate, length-set, length-replicate, getD-replicate, List·getD-eq-default}
+use Rattle.layout.specs.Sizes.{nodeCount, registerCount, registerWords, registerAt, currentAt, currentRegister, journeyRegister, stashRegister}
 use Rattle.layout.specs.Words.{words48, bytes48, zeros}
+use Rattle.layout.proofs.Blocks.{getD-kept}
+use Rattle.layout.proofs.Bounded.{all-below}
 use Rattle.layout.proofs.Packing.{getD-part, bytes-words}
 use Rattle.layout.proofs.Tab.{length-zeros}
 use Rattle.sha384.specs.Entries.{extended}
 use Rattle.sha384.proofs.Sizes.{Bytes, length-extended, bytes-extended}
-use Rattle.tree.specs.Nodes.{word, wellFormedBelow, wellFormed, rootOf, holderOf, cumulativeIn}
-use Rattle.tree.specs.Record.{Node, isFree, isRootNode, isHolder}
+use Rattle.tree.specs.Nodes.{word, treeIn, cumulativeIn}
+use Rattle.tree.specs.Tree.{Place, Tree, defaultWords, sameHandle, isRoot, rootOk, wellFormed, rootIn, nodeWith, lowestFree}
+use Rattle.tree.specs.Record.{Node, defaultHandle, retiredHandle, handleRow, withHandle, placeOf, treeOf}
+use Rattle.tree.proofs.Ways.{leads-root}
+use Rattle.tree.proofs.Rooted.{placed, placed-same, placed-other, root-used}
+use Rattle.tree.proofs.Rows.{default-row, retired-row}
+use Rattle.tree.proofs.WellFormed.{Formed, same-refl, rehandled, stashed, formed-true, formed-stashed, top-found, holder-found, free-there}
 use Rattle.opening.specs.Values.{measured, childNode, rootNode}
-use Rattle.opening.specs.Tasks.{disableCommand, disablingBoot, stash, update, coldBoot}
+use Rattle.opening.specs.Tasks.{BootInputs, Measurement, stash, update, coldBoot}
 use Rattle.opening.specs.Openings.{rootMatches}
-use Rattle.history.specs.Ledger.{State, find, retired, renewed, next, imageOf}
-use Rattle.history.proofs.Blocks.{getD-kept}
-use Rattle.history.proofs.Encoded.{Shape, all-below, register-words, current-at, cumulative-words, encodes, root-found, holder-found}
-use Rattle.history.proofs.Tree.{count-one, Link, taken}
-use Rattle.history.proofs.Formed.{linkOf, Formed, find-hit, free-none}
-use Rattle.history.proofs.Formed as formed
+use Rattle.history.specs.Ledger.{Chain, State, treeAt, changed, renewed, nextChain, imageOf}
+use Rattle.history.proofs.Encoded.{Shape, register-words, current-at, cumulative-words, encodes, tree-read}
 
--- the measurements of a place for a node
-abbrev pub currentOf : Option Node → List ℕ
+-- the current measurement of a place for a node
+abbrev currentOf : Option Node → List ℕ
 currentOf none = []
 currentOf (some n) = n .current
 
-abbrev pub cumulativeOf : Option Node → List ℕ
-cumulativeOf none = []
-cumulativeOf (some n) = n .cumulative
-
--- top is the root's index
-pub record Good (x : State) : Type 0 where
-  pub shape : Shape x
-  pub top : ℕ
-  pub holder : ℕ
-  pub formed : Formed (x .nodes) top holder
-  pub journey : currentOf (getD (x .nodes) top none) ≡ getD (x .registers) journeyRegister []
-  pub long : length (cumulativeOf (getD (x .nodes) top none)) ≡ 48
-  pub bytes : Bytes (cumulativeOf (getD (x .nodes) top none))
-
-pub good-shape : (x : State) → Good x → Shape x
-good-shape x g = g .shape
-
--- ---- registers
+-- ---- measurements
 
 -- 48 bytes
-abbrev Measure : List ℕ → Type 0
+abbrev pub Measure : List ℕ → Type 0
 Measure b = (length b ≡ 48) × Bytes b
+
+measure-extended : (b d : List ℕ) → Measure (extended b d)
+measure-extended b d = (length-extended b d, bytes-extended b d)
 
 bytes-zeros : (n : ℕ) → Bytes (zeros n)
 unfolding zeros
@@ -76,23 +65,90 @@ measures-set : (n : ℕ) (l : List (List ℕ)) (k : ℕ) (b d : List ℕ) → Me
 measures-set n l k b d h = (
   length-set l k (extended b d) ∙ h .0,
   λ i c. elim (ℕ-discrete i k) [
-    | yes z ↦ rw (z, getD-set-same l k (extended b d) [] (omega (arith, h .0))) (length-extended b d, bytes-extended b d)
+    | yes z ↦ rw (z, getD-set-same l k (extended b d) [] (omega (arith, h .0))) (measure-extended b d)
     | no z ↦ rw (getD-set-other l k i (extended b d) [] z) (h .1 i c)
   ],
 )
 
-measures-of : (x : State) → Shape x → Measures registerCount (x .registers)
+measures-of : (x : Chain) → Shape x → Measures registerCount (x .registers)
 measures-of x h = (h .registers, λ i l. (h .long i l, h .bytes i l))
 
-shape-of : (x : State) → Measures registerCount (x .registers) → length (x .nodes) ≡ nodeCount → Shape x
+shape-of : (x : Chain) → Measures registerCount (x .registers) → length (x .nodes) ≡ nodeCount → Shape x
 shape-of x h e = record { registers = h .0; long = λ i l. h .1 i l .0; bytes = λ i l. h .1 i l .1; nodes = e }
+
+-- the cumulative measurement of every node
+abbrev Cumulatives : List (Option Node) → Type 0
+Cumulatives ns = (i : ℕ) (n : Node) → getD ns i none ≡ some n → Measure (n .cumulative)
+
+abbrev MeasureOf : Option Node → Type 0
+MeasureOf none = Unit {0}
+MeasureOf (some n) = Measure (n .cumulative)
+
+cumulatives-set : (ns : List (Option Node)) (k : ℕ) (s : Option Node) → Cumulatives ns → MeasureOf s → Cumulatives (set ns k s)
+cumulatives-set ns k s c h i n e = elim (ℕ-discrete i k) [
+  | yes z ↦ elim (decLt k (length ns)) [
+    | yes l ↦ subst MeasureOf (sym (getD-set-same ns k s none l) ∙ ap (λ (j : ℕ). getD (set ns k s) j none) (sym z) ∙ e) h
+    | no g ↦ absurd (Option·none-ne-some n (sym (List·getD-eq-default (set ns k s) none {n = i} (rw length-set (omega arith))) ∙ e))
+  ]
+  | no z ↦ c i n (sym (getD-set-other ns k i s none z) ∙ e)
+]
+
+-- of a place that was changed, where the change keeps or makes it
+measure-changed : (f : Node → Node) (s : Option Node) → ((n : Node) → s ≡ some n → Measure (f n .cumulative)) → MeasureOf (changed f s)
+measure-changed f none h = tt
+measure-changed f (some n) h = h n refl
+
+-- ---- what holds of every chain
+
+-- top is the root's index, holder that of the default handle's node
+pub record Good (x : Chain) : Type 0 where
+  pub shape : Shape x
+  pub top : ℕ
+  pub holder : ℕ
+  pub formed : Formed nodeCount (treeAt x) top holder
+  pub journey : currentOf (getD (x .nodes) top none) ≡ getD (x .registers) journeyRegister []
+  pub cumulatives : Cumulatives (x .nodes)
+
+-- ---- the tree of changed nodes
+
+tree-set : (ns : List (Option Node)) (k : ℕ) (s : Option Node) → k < length ns → treeOf (set ns k s) ≡ placed k (placeOf s) (treeOf ns)
+tree-set ns k s l = fun-ext (λ i. elim (ℕ-discrete i k) [
+  | yes e ↦ ap placeOf (ap (λ (j : ℕ). getD (set ns k s) j none) e ∙ getD-set-same ns k s none l)
+      ∙ sym (ap (placed k (placeOf s) (treeOf ns)) e ∙ placed-same k (placeOf s) (treeOf ns))
+  | no z ↦ ap placeOf (getD-set-other ns k i s none z) ∙ sym (placed-other k (placeOf s) (treeOf ns) i z)
+])
+
+-- a place that looks as before
+placed-self : (k : ℕ) (t : Tree) → placed k (t k) t ≡ t
+placed-self k t = fun-ext (λ i. elim (ℕ-discrete i k) [
+  | yes e ↦ ap (placed k (t k) t) e ∙ placed-same k (t k) t ∙ ap t (sym e)
+  | no z ↦ placed-other k (t k) t i z
+])
+
+placed-swap : (h k : ℕ) (p q : Place) (t : Tree) → h ≢ k → placed h p (placed k q t) ≡ placed k q (placed h p t)
+placed-swap h k p q t z = fun-ext (λ i. elim (ℕ-discrete i h) [
+  | yes e ↦ ap (placed h p (placed k q t)) e
+      ∙ placed-same h p (placed k q t)
+      ∙ sym (placed-same h p t)
+      ∙ sym (placed-other k q (placed h p t) h z)
+      ∙ ap (placed k q (placed h p t)) (sym e)
+  | no w ↦ placed-other h p (placed k q t) i w ∙ elim (ℕ-discrete i k) [
+    | yes e ↦ ap (placed k q t) e ∙ placed-same k q t ∙ sym (placed-same k q (placed h p t)) ∙ ap (placed k q (placed h p t)) (sym e)
+    | no v ↦ placed-other k q t i v ∙ sym (placed-other h p t i w) ∙ sym (placed-other k q (placed h p t) i v)
+  ]
+])
+
+-- the default handle's words
+default-same : sameHandle (handleRow defaultHandle) defaultWords ≡ true
+unfolding zeros
+default-same = ap (λ (w : List ℕ). sameHandle w defaultWords) default-row ∙ same-refl defaultWords
 
 -- ---- after a cold boot
 
-blank-slot : (n i : ℕ) → _≡_ {A = Option Node} (getD (replicate n none) i none) none
-blank-slot zero i = refl
-blank-slot (suc n) zero = refl
-blank-slot (suc n) (suc i) = blank-slot n i
+blank-place : (n i : ℕ) → _≡_ {A = Option Node} (getD (replicate n none) i none) none
+blank-place zero i = refl
+blank-place (suc n) zero = refl
+blank-place (suc n) (suc i) = blank-place n i
 
 module _ (n : ℕ) (first : 0 < n) (journey : List ℕ) where
   abbrev coldNodes : List (Option Node)
@@ -105,248 +161,244 @@ module _ (n : ℕ) (first : 0 < n) (journey : List ℕ) where
   cold-root = getD-set-same (replicate n none) 0 (some (rootNode journey)) none (rw (length-replicate {A = Option Node} n none) first)
 
   cold-else : (i : ℕ) → i ≢ 0 → getD coldNodes i none ≡ none
-  cold-else i z = getD-set-other (replicate n none) 0 i (some (rootNode journey)) none z ∙ blank-slot n i
+  cold-else i z = getD-set-other (replicate n none) 0 i (some (rootNode journey)) none z ∙ blank-place n i
 
-  cold-only : (i : ℕ) (a : Link) → linkOf (getD coldNodes i none) ≡ some a → i ≡ 0
-  cold-only i a e = elim (ℕ-discrete i 0) [ yes z ↦ z | no z ↦ absurd (Option·none-ne-some a (sym (ap linkOf (cold-else i z)) ∙ e)) ]
+  cold-used : (i : ℕ) → treeOf coldNodes i .used ≡ true → i ≡ 0
+  cold-used i u = elim (ℕ-discrete i 0) [ yes z ↦ z | no z ↦ absurd (true≢false (sym u ∙ ap (λ (s : Option Node). placeOf s .used) (cold-else i z))) ]
 
-  cold-formed : n ≤ rootMark → Formed coldNodes 0 0
-  cold-formed few =
+  cold-is-root : isRoot (treeOf coldNodes 0) ≡ true
+  unfolding isRoot
+  cold-is-root = ap (λ (s : Option Node). isRoot (placeOf s)) cold-root
+
+  pub formed-cold : Formed n (treeOf coldNodes) 0 0
+  unfolding isRoot rootOk
+  formed-cold =
       record {
-        few = rw length-cold few;
-        tree = rw length-cold
-            (record {
-              inside = λ i a e. rw (cold-only i a e) first;
-              root = ap linkOf cold-root;
-              age = λ i. 0;
-              young = λ i a e.
-                  omega (
-                    arith,
-                    count-one (λ k. taken (linkOf (getD coldNodes k none))) n 0 first (ap (λ (s : Option Node). taken (linkOf s)) cold-root)
-                        (λ k z. ap (λ (s : Option Node). taken (linkOf s)) (cold-else k z)),
-                  );
-              hangs = λ i a e z. absurd (z (cold-only i a e));
-            });
-        holds = ap isHolder cold-root;
-        others = λ i z. ap isHolder (cold-else i z);
+        rooted =
+            record {
+              below = first;
+              root = cold-is-root;
+              kind = ap (λ (s : Option Node). rootOk (placeOf s)) cold-root;
+              child = λ i l u z. absurd (z (cold-used i u));
+              way = λ i l u. leads-root n (treeOf coldNodes) (n - 1) i (ap (λ (j : ℕ). isRoot (treeOf coldNodes j)) (cold-used i u) ∙ cold-is-root);
+            };
+        held =
+            record {
+              below = first;
+              used = ap (λ (s : Option Node). placeOf s .used) cold-root;
+              default = ap (λ (s : Option Node). sameHandle (placeOf s .handle) defaultWords) cold-root ∙ default-same;
+              others = λ i l u z. absurd (z (cold-used i u));
+            };
+        blank = λ i l u. elim (ℕ-discrete i 0) [
+          | yes z ↦ absurd (true≢false (sym (ap (λ (j : ℕ). treeOf coldNodes j .used) z ∙ ap (λ (s : Option Node). placeOf s .used) cold-root) ∙ u))
+          | no z ↦ ap (λ (s : Option Node). placeOf s .blank) (cold-else i z)
+        ];
       }
 
-pub good-cold : (y : State) (d s : List ℕ) → Good (next y (coldBoot d s))
-unfolding next
-good-cold y d s =
+pub good-cold : (y : Chain) (b : BootInputs) → Good (nextChain y (coldBoot b))
+unfolding nextChain
+good-cold y b =
     record {
       shape =
-          shape-of (next y (coldBoot d s))
-          (measures-set registerCount (set (replicate registerCount (zeros 48)) currentRegister z) journeyRegister (zeros 48) d
-          (measures-set registerCount (replicate registerCount (zeros 48)) currentRegister (zeros 48) d (measures-zero registerCount)))
+          shape-of (nextChain y (coldBoot b))
+          (measures-set registerCount (set (replicate registerCount (zeros 48)) currentRegister z) journeyRegister (zeros 48) (b .digest)
+          (measures-set registerCount (replicate registerCount (zeros 48)) currentRegister (zeros 48) (b .digest) (measures-zero registerCount)))
           (length-cold nodeCount (omega arith) z);
       top = 0;
       holder = 0;
-      formed = cold-formed nodeCount (omega arith) z (omega arith);
+      formed = formed-cold nodeCount (omega arith) z;
       journey =
           ap currentOf (cold-root nodeCount (omega arith) z)
           ∙ sym (getD-set-same (set (replicate registerCount (zeros 48)) currentRegister z) journeyRegister z []
           (rw (length-set, length-replicate registerCount (zeros 48)) (omega arith)));
-      long = ap (λ (n : Option Node). length (cumulativeOf n)) (cold-root nodeCount (omega arith) z) ∙ length-extended (zeros 48) z;
-      bytes = subst (λ (n : Option Node). Bytes (cumulativeOf n)) (sym (cold-root nodeCount (omega arith) z)) (bytes-extended (zeros 48) z);
+      cumulatives = cumulatives-set (replicate nodeCount none) 0 (some (rootNode z)) (λ i n e. absurd (Option·none-ne-some n (sym (blank-place nodeCount i) ∙ e)))
+          (measure-extended (zeros 48) z);
     }
   where
     z : List ℕ
-    z = measured d
+    z = measured (b .digest)
 
 -- ---- root and holder, where the searches find them
 
-module _ (x : State) (g : Good x) where
-  root-is : find isRootNode (x .nodes) ≡ g .top
-  root-is = formed.top-found (x .nodes) (g .top) (g .holder) (g .formed)
+used-place : (s : Option Node) → placeOf s .used ≡ true → (n : Node) × (s ≡ some n)
+used-place none u = absurd (true≢false (sym u))
+used-place (some n) u = (n, refl)
 
-  at-found : Formed (x .nodes) (find isRootNode (x .nodes)) (find isHolder (x .nodes))
-  at-found =
-      rw (root-is, formed.holder-found (x .nodes) (g .top) (g .holder) (g .formed)) (g .formed)
+module _ (x : Chain) (g : Good x) where
+  pub root-is : rootIn nodeCount (treeAt x) ≡ g .top
+  root-is = top-found nodeCount (omega arith) (treeAt x) (g .top) (g .holder) (g .formed)
 
-  journey-found : currentOf (getD (x .nodes) (find isRootNode (x .nodes)) none) ≡ getD (x .registers) journeyRegister []
-  journey-found = ap (λ (k : ℕ). currentOf (getD (x .nodes) k none)) root-is ∙ g .journey
+  pub root-below : rootIn nodeCount (treeAt x) < nodeCount
+  root-below = rw root-is (g .formed .rooted .below)
 
-  long-found : length (cumulativeOf (getD (x .nodes) (find isRootNode (x .nodes)) none)) ≡ 48
-  long-found = ap (λ (k : ℕ). length (cumulativeOf (getD (x .nodes) k none))) root-is ∙ g .long
+  pub root-node : (n : Node) × (getD (x .nodes) (rootIn nodeCount (treeAt x)) none ≡ some n)
+  root-node = rw root-is (used-place (getD (x .nodes) (g .top) none) (root-used (treeAt x (g .top)) (g .formed .rooted .root)))
 
-  bytes-found : Bytes (cumulativeOf (getD (x .nodes) (find isRootNode (x .nodes)) none))
-  bytes-found = subst (λ (k : ℕ). Bytes (cumulativeOf (getD (x .nodes) k none))) (sym root-is) (g .bytes)
+  pub holder-is : nodeWith nodeCount (treeAt x) defaultWords ≡ g .holder
+  holder-is = holder-found nodeCount (omega arith) (treeAt x) (g .top) (g .holder) (g .formed)
 
-  pub holder-below : find isHolder (x .nodes) < nodeCount
-  holder-below =
-      omega (arith, formed.holder-below (x .nodes) (find isRootNode (x .nodes)) (find isHolder (x .nodes)) at-found, g .shape .nodes)
+  pub holder-below : nodeWith nodeCount (treeAt x) defaultWords < nodeCount
+  holder-below = rw holder-is (g .formed .held .below)
 
-  pub root-below : find isRootNode (x .nodes) < nodeCount
-  root-below =
-      omega (arith, formed.top-below (x .nodes) (find isRootNode (x .nodes)) (find isHolder (x .nodes)) at-found, g .shape .nodes)
+  pub holder-node : (n : Node) × (getD (x .nodes) (nodeWith nodeCount (treeAt x) defaultWords) none ≡ some n)
+  holder-node = rw holder-is (used-place (getD (x .nodes) (g .holder) none) (g .formed .held .used))
 
-  pub holder-slot : (n : Node) × (getD (x .nodes) (find isHolder (x .nodes)) none ≡ some n)
-  holder-slot = formed.holder-slot (x .nodes) (find isRootNode (x .nodes)) (find isHolder (x .nodes)) at-found
+  -- the free place is not the holder's
+  pub holder-apart : lowestFree nodeCount (treeAt x) < nodeCount → nodeWith nodeCount (treeAt x) defaultWords ≢ lowestFree nodeCount (treeAt x)
+  holder-apart room z =
+      true≢false (sym (ap (λ (s : Option Node). placeOf s .used) (holder-node .1)) ∙ ap (λ (j : ℕ). treeAt x j .used) z ∙ free-there nodeCount (treeAt x) room)
 
-  pub root-slot : (n : Node) × (getD (x .nodes) (find isRootNode (x .nodes)) none ≡ some n)
-  root-slot =
-      let r = formed.top-slot (x .nodes) (find isRootNode (x .nodes)) (find isHolder (x .nodes)) at-found in
-      (r .0, r .1)
-
-  pub good-command : Good (next x disableCommand)
-  unfolding next
-  good-command =
-      record {
-        shape = shape-of (next x disableCommand) (measures-of x (g .shape)) (g .shape .nodes);
-        top = g .top;
-        holder = g .holder;
-        formed = g .formed;
-        journey = g .journey;
-        long = g .long;
-        bytes = g .bytes;
-      }
-
-  pub good-boot : Good (next x disablingBoot)
-  unfolding next
-  good-boot = good-command
+  pub formed-good : wellFormed nodeCount (treeAt x) ≡ true
+  formed-good = formed-true nodeCount (omega arith) (treeAt x) (g .top) (g .holder) (g .formed)
 
 -- ---- a stash
 
-retired-current : (s : Option Node) → currentOf (retired s) ≡ currentOf s
-retired-current none = refl
-retired-current (some n) = refl
+module _ (x : Chain) (m : Measurement) (g : Good x) (room : lowestFree nodeCount (treeAt x) < nodeCount) where
+  h : ℕ
+  h = nodeWith nodeCount (treeAt x) defaultWords
 
-retired-cumulative : (s : Option Node) → cumulativeOf (retired s) ≡ cumulativeOf s
-retired-cumulative none = refl
-retired-cumulative (some n) = refl
+  k : ℕ
+  k = lowestFree nodeCount (treeAt x)
 
-pub good-stash : (x : State) (ty : ℕ) (d : List ℕ) (svn c : ℕ) → Good x → find isFree (x .nodes) < nodeCount → Good (next x (stash ty d svn c))
-unfolding next
-good-stash x ty d svn c g room =
-    record {
-      shape =
-          shape-of (next x (stash ty d svn c))
-          (measures-set registerCount (x .registers) stashRegister (getD (x .registers) stashRegister []) d (measures-of x (g .shape)))
-          (length-set (set ns k new) h old ∙ length-set ns k new ∙ g .shape .nodes);
-      top = r;
-      holder = k;
-      formed = formed.formed-stash ns r h (at-found x g) k (childNode h ty d c) (omega (arith, g .shape .nodes)) free refl refl refl;
-      journey =
-          kept currentOf retired-current
-          ∙ journey-found x g
-          ∙ sym (getD-set-other (x .registers) stashRegister journeyRegister (extended (getD (x .registers) stashRegister []) d) []
-          (λ (e : _≡_ {A = ℕ} journeyRegister stashRegister). omega arith));
-      long = ap length (kept cumulativeOf retired-cumulative) ∙ long-found x g;
-      bytes = subst Bytes (sym (kept cumulativeOf retired-cumulative)) (bytes-found x g);
-    }
-  where
-    ns : List (Option Node)
-    ns = x .nodes
+  child : Node
+  child = childNode h m
 
-    r : ℕ
-    r = find isRootNode (x .nodes)
+  old : Option Node
+  old = changed (withHandle retiredHandle) (getD (x .nodes) h none)
 
-    h : ℕ
-    h = find isHolder (x .nodes)
+  place-old : placeOf old ≡ rehandled (handleRow retiredHandle) (treeAt x h)
+  unfolding old h
+  place-old = go (getD (x .nodes) h none) (holder-node x g .0) (holder-node x g .1)
+    where
+      go : (s : Option Node) (n : Node) → s ≡ some n → placeOf (changed (withHandle retiredHandle) s) ≡ rehandled (handleRow retiredHandle) (placeOf s)
+      go none n e = absurd (Option·none-ne-some n e)
+      go (some p) n e = refl
 
-    k : ℕ
-    k = find isFree (x .nodes)
+  tree-stashed : treeOf (set (set (x .nodes) k (some child)) h old) ≡ stashed h k (placeOf (some child)) (treeAt x)
+  unfolding h k
+  tree-stashed =
+      tree-set (set (x .nodes) k (some child)) h old (rw length-set (omega (arith, holder-below x g, g .shape .nodes)))
+      ∙ ap (placed h (placeOf old)) (tree-set (x .nodes) k (some child) (omega (arith, g .shape .nodes)))
+      ∙ placed-swap h k (placeOf old) (placeOf (some child)) (treeAt x) (holder-apart x g room)
+      ∙ ap (λ (p : Place). placed k (placeOf (some child)) (placed h p (treeAt x))) (place-old ∙ ap (λ (w : List ℕ). rehandled w (treeAt x h)) retired-row)
 
-    new : Option Node
-    new = some (childNode (find isHolder (x .nodes)) ty d c)
+  formed-now : Formed nodeCount (treeOf (set (set (x .nodes) k (some child)) h old)) (g .top) k
+  unfolding h k child
+  formed-now =
+      subst (λ (t : Tree). Formed nodeCount t (g .top) k) (sym tree-stashed)
+      (subst (λ (i : ℕ). Formed nodeCount (stashed i k (placeOf (some child)) (treeAt x)) (g .top) k) (sym (holder-is x g))
+      (formed-stashed nodeCount (treeAt x) (g .top) (g .holder) (g .formed) k (placeOf (some child)) room (free-there nodeCount (treeAt x) room) refl refl (holder-is x g)
+      default-same))
 
-    old : Option Node
-    old = retired (getD (x .nodes) (find isHolder (x .nodes)) none)
+  current-kept : currentOf (getD (set (set (x .nodes) k (some child)) h old) (g .top) none) ≡ currentOf (getD (x .nodes) (g .top) none)
+  unfolding h k old
+  current-kept =
+      getD-kept currentOf (set (x .nodes) k (some child)) h (g .top) old none
+      (go (getD (x .nodes) h none) ∙ ap currentOf (sym (getD-set-other (x .nodes) k h (some child) none (holder-apart x g room))))
+      ∙ ap currentOf (getD-set-other (x .nodes) k (g .top) (some child) none top-apart)
+    where
+      go : (s : Option Node) → currentOf (changed (withHandle retiredHandle) s) ≡ currentOf s
+      go none = refl
+      go (some n) = refl
 
-    free : getD (x .nodes) (find isFree (x .nodes)) none ≡ none
-    free = free-none (getD (x .nodes) k none) (find-hit isFree (x .nodes) none (omega (arith, g .shape .nodes)))
+      top-apart : g .top ≢ lowestFree nodeCount (treeAt x)
+      top-apart z = true≢false (sym (root-used (treeAt x (g .top)) (g .formed .rooted .root)) ∙ ap (λ (j : ℕ). treeAt x j .used) z ∙ free-there nodeCount (treeAt x) room)
 
-    -- a used place is not the free one
-    apart : (i : ℕ) (n : Node) → getD (x .nodes) i none ≡ some n → i ≢ find isFree (x .nodes)
-    apart i n e z = Option·none-ne-some n (sym free ∙ ap (λ (j : ℕ). getD (x .nodes) j none) (sym z) ∙ e)
-
-    -- the root's measurements stay, also if it is the holder
-    kept : {A : Type 0} (f : Option Node → A) → ((s : Option Node) → f (retired s) ≡ f s) → f (getD (set (set ns k new) h old) r none) ≡ f (getD ns r none)
-    kept f e =
-        let hs = holder-slot x g in
-        let rs = root-slot x g in
-        getD-kept f (set ns k new) h r old none (e (getD ns h none) ∙ ap f (sym (getD-set-other ns k h new none (apart h (hs .0) (hs .1)))))
-        ∙ ap f (getD-set-other ns k r new none (apart r (rs .0) (rs .1)))
+  pub good-stash : Good (nextChain x (stash m))
+  unfolding nextChain h k child old
+  good-stash =
+      record {
+        shape =
+            shape-of (nextChain x (stash m))
+            (measures-set registerCount (x .registers) stashRegister (getD (x .registers) stashRegister []) (m .digest) (measures-of x (g .shape)))
+            (length-set (set (x .nodes) k (some child)) h old ∙ length-set (x .nodes) k (some child) ∙ g .shape .nodes);
+        top = g .top;
+        holder = k;
+        formed = formed-now;
+        journey =
+            current-kept
+            ∙ g .journey
+            ∙ sym (getD-set-other (x .registers) stashRegister journeyRegister (extended (getD (x .registers) stashRegister []) (m .digest)) []
+            (λ (e : _≡_ {A = ℕ} journeyRegister stashRegister). omega arith));
+        cumulatives =
+            cumulatives-set (set (x .nodes) k (some child)) h old
+            (cumulatives-set (x .nodes) k (some child) (g .cumulatives) (measure-extended (zeros 48) (m .digest)))
+            (measure-changed (withHandle retiredHandle) (getD (x .nodes) h none) (λ n e. g .cumulatives h n e));
+      }
 
 -- ---- an update boot
 
-renewed-link : (j : List ℕ) (s : Option Node) → linkOf (renewed j s) ≡ linkOf s
-renewed-link j none = refl
-renewed-link j (some n) = refl
-
-renewed-holds : (j : List ℕ) (s : Option Node) → isHolder (renewed j s) ≡ isHolder s
-renewed-holds j none = refl
-renewed-holds j (some n) = refl
-
-pub good-update : (x : State) (d s : List ℕ) → Good x → Good (next x (update d s))
-unfolding next
-good-update x d s g =
+pub good-update : (x : Chain) (b : BootInputs) → Good x → Good (nextChain x (update b))
+unfolding nextChain
+good-update x b g =
     record {
       shape =
-          shape-of (next x (update d s))
-          (measures-set registerCount (set (x .registers) currentRegister (measured d)) journeyRegister (getD (x .registers) journeyRegister []) d
-          (measures-set registerCount (x .registers) currentRegister (zeros 48) d (measures-of x (g .shape))))
+          shape-of (nextChain x (update b))
+          (measures-set registerCount (set (x .registers) currentRegister (measured (b .digest))) journeyRegister (getD (x .registers) journeyRegister []) (b .digest)
+          (measures-set registerCount (x .registers) currentRegister (zeros 48) (b .digest) (measures-of x (g .shape))))
           (length-set (x .nodes) r new ∙ g .shape .nodes);
-      top = r;
-      holder = find isHolder (x .nodes);
-      formed = formed.formed-swap (x .nodes) r (find isHolder (x .nodes)) r new (at-found x g) (renewed-link j (getD (x .nodes) r none)) (renewed-holds j (getD (x .nodes) r none));
+      top = g .top;
+      holder = g .holder;
+      formed = subst (λ (t : Tree). Formed nodeCount t (g .top) (g .holder)) (sym same-tree) (g .formed);
       journey =
-          ap currentOf at-root
-          ∙ sym (getD-set-same (set (x .registers) currentRegister (measured d)) journeyRegister j [] (rw length-set (omega (arith, g .shape .registers))));
-      long = ap (λ (n : Option Node). length (cumulativeOf n)) at-root ∙ length-extended (root-slot x g .0 .cumulative) j;
-      bytes = subst (λ (n : Option Node). Bytes (cumulativeOf n)) (sym at-root) (bytes-extended (root-slot x g .0 .cumulative) j);
+          ap (λ (i : ℕ). currentOf (getD (set (x .nodes) r new) i none)) (sym (root-is x g))
+          ∙ ap currentOf (getD-set-same (x .nodes) r new none (omega (arith, root-below x g, g .shape .nodes)) ∙ ap (changed (renewed j)) (root-node x g .1))
+          ∙ sym (getD-set-same (set (x .registers) currentRegister (measured (b .digest))) journeyRegister j [] (rw length-set (omega (arith, g .shape .registers))));
+      cumulatives = cumulatives-set (x .nodes) r new (g .cumulatives) (measure-changed (renewed j) (getD (x .nodes) r none) (λ n e. measure-extended (n .cumulative) j));
     }
   where
     r : ℕ
-    r = find isRootNode (x .nodes)
+    r = rootIn nodeCount (treeAt x)
 
     j : List ℕ
-    j = extended (getD (x .registers) journeyRegister []) d
+    j = extended (getD (x .registers) journeyRegister []) (b .digest)
 
     new : Option Node
-    new = renewed (extended (getD (x .registers) journeyRegister []) d) (getD (x .nodes) (find isRootNode (x .nodes)) none)
+    new = changed (renewed j) (getD (x .nodes) r none)
 
-    at-root : getD (set (x .nodes) r new) r none ≡ renewed j (some (root-slot x g .0))
-    at-root = getD-set-same (x .nodes) r new none (omega (arith, root-below x g, g .shape .nodes)) ∙ ap (renewed j) (root-slot x g .1)
+    same-tree : treeOf (set (x .nodes) r new) ≡ treeAt x
+    same-tree =
+        tree-set (x .nodes) r new (omega (arith, root-below x g, g .shape .nodes))
+        ∙ ap (λ (p : Place). placed r p (treeAt x)) (go (getD (x .nodes) r none))
+        ∙ placed-self r (treeAt x)
+      where
+        go : (s : Option Node) → placeOf (changed (renewed j) s) ≡ placeOf s
+        go none = refl
+        go (some n) = refl
 
 -- ---- its image
 
-pub holder-read : (mk at : ℕ) (x : State) → Good x → holderOf (imageOf mk at x) ≡ find isHolder (x .nodes)
-holder-read mk at x g = holder-found mk at x (g .shape)
+module _ (mk at : ℕ) (x : State) (g : Good (x .chain)) where
+  pub good-tree : treeIn (imageOf mk at x) ≡ treeAt (x .chain)
+  good-tree = tree-read mk at x (g .shape)
 
-pub root-read : (mk at : ℕ) (x : State) → Good x → rootOf (imageOf mk at x) ≡ find isRootNode (x .nodes)
-root-read mk at x g = root-found mk at x (g .shape)
+  pub matches-good : rootMatches (imageOf mk at x) ≡ true
+  unfolding rootMatches
+  matches-good =
+      all-below (λ i. eqb (word m (rootIn nodeCount (treeIn m)) (currentAt + i)) (getD m (registerAt journeyRegister + i) 0)) registerWords
+      (λ i l. eq-eqb (word m (rootIn nodeCount (treeIn m)) (currentAt + i)) (getD m (registerAt journeyRegister + i) 0)
+      (ap (λ (t : Tree). word m (rootIn nodeCount t) (currentAt + i)) good-tree
+      ∙ current-at m ns (encodes mk at x (g .shape)) r (omega (arith, root-below (x .chain) g, g .shape .nodes)) (s .0) (s .1) i l
+      ∙ ap (λ (b : List ℕ). getD (words48 b) i 0) (sym (ap currentOf (s .1)) ∙ journey-found)
+      ∙ ap (λ (ws : List ℕ). getD ws i 0) (sym (register-words mk at x (g .shape) journeyRegister (omega arith)))
+      ∙ getD-part registerWords m (registerAt journeyRegister) i l))
+    where
+      m : List ℕ
+      m = imageOf mk at x
 
-pub formed-good : (mk at : ℕ) (x : State) → Good x → wellFormed (imageOf mk at x) ≡ true
-formed-good mk at x g =
-    ap (λ (n : ℕ). wellFormedBelow n (imageOf mk at x)) (sym (g .shape .nodes))
-    ∙ formed.formed-below (imageOf mk at x) (x .nodes) (encodes mk at x (g .shape)) (g .top) (g .holder) (g .formed)
+      ns : List (Option Node)
+      ns = x .chain .nodes
 
-pub matches-good : (mk at : ℕ) (x : State) → Good x → rootMatches (imageOf mk at x) ≡ true
-unfolding rootMatches
-matches-good mk at x g =
-    all-below (λ k. eqb (word m (rootOf m) (currentAt + k)) (getD m (registerAt journeyRegister + k) 0)) registerWords
-    (λ k l. eq-eqb (word m (rootOf m) (currentAt + k)) (getD m (registerAt journeyRegister + k) 0)
-    (ap (λ (i : ℕ). word m i (currentAt + k)) (root-read mk at x g)
-    ∙ current-at m (x .nodes) (encodes mk at x (g .shape)) r (omega (arith, root-below x g, g .shape .nodes)) (s .0) (s .1) k l
-    ∙ ap (λ (b : List ℕ). getD (words48 b) k 0) (sym (ap currentOf (s .1)) ∙ journey-found x g)
-    ∙ ap (λ (ws : List ℕ). getD ws k 0) (sym (register-words mk at x journeyRegister (g .shape) (omega arith)))
-    ∙ getD-part registerWords m (registerAt journeyRegister) k l))
-  where
-    m : List ℕ
-    m = imageOf mk at x
+      r : ℕ
+      r = rootIn nodeCount (treeAt (x .chain))
 
-    r : ℕ
-    r = find isRootNode (x .nodes)
+      s : (n : Node) × (getD (x .chain .nodes) (rootIn nodeCount (treeAt (x .chain))) none ≡ some n)
+      s = root-node (x .chain) g
 
-    s : (n : Node) × (getD (x .nodes) (find isRootNode (x .nodes)) none ≡ some n)
-    s = root-slot x g
+      journey-found : currentOf (getD (x .chain .nodes) (rootIn nodeCount (treeAt (x .chain))) none) ≡ getD (x .chain .registers) journeyRegister []
+      journey-found = ap (λ (i : ℕ). currentOf (getD (x .chain .nodes) i none)) (root-is (x .chain) g) ∙ g .journey
 
-pub cumulative-read : (mk at : ℕ) (x : State) (n : Node) → Good x → getD (x .nodes) (find isRootNode (x .nodes)) none ≡ some n
-    → bytes48 (cumulativeIn (imageOf mk at x) (find isRootNode (x .nodes))) ≡ n .cumulative
-cumulative-read mk at x n g e =
-    ap bytes48
-    (cumulative-words (imageOf mk at x) (x .nodes) (encodes mk at x (g .shape)) (find isRootNode (x .nodes)) (omega (arith, root-below x g, g .shape .nodes)) n e)
-    ∙ bytes-words registerWords (n .cumulative) (sym (ap (λ (s : Option Node). length (cumulativeOf s)) e) ∙ long-found x g)
-    (subst (λ (s : Option Node). Bytes (cumulativeOf s)) e (bytes-found x g))
+  pub cumulative-read : (i : ℕ) (n : Node) → getD (x .chain .nodes) i none ≡ some n → i < nodeCount → bytes48 (cumulativeIn (imageOf mk at x) i) ≡ n .cumulative
+  cumulative-read i n e l =
+      ap bytes48 (cumulative-words (imageOf mk at x) (x .chain .nodes) (encodes mk at x (g .shape)) i (omega (arith, g .shape .nodes)) n e)
+      ∙ bytes-words registerWords (n .cumulative) (g .cumulatives i n e .0) (g .cumulatives i n e .1)

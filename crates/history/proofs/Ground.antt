@@ -1,34 +1,41 @@
 -- What the image is between works, beside the ledger's history, torn and unfinished; what may be opened there; and what a finished work leaves.
 -- Assumes nothing.
 use mathlib.Core.Path.{_≡_, refl, sym, ap, _∙_, subst}
+use mathlib.Core.Logic.{_⊎_, inl, inr}
 use Prim.Native.Nat.{ℕ, _≤_, _<_, zero-le}
 use native.Mathlib.Nat.{not-suc-le-zero}
 use native.Mathlib.Omega.{arith}
-use mathlib.Core.Bool.{Bool, true, false, cond, not, _&&_, _||_, or-false, or-true, true≢false}
+use mathlib.Core.Bool.{Bool, true, false, cond, not, _&&_, _||_, or-false, or-true, true≢false, false≢true}
 use mathlib.Core.List.{List, [], _∷_, _++_, foldl-append}
-use lib.Dec.{eqb, leb, ltb}
-use borrow.Author.Tests.{lt-ltb, leb-false}
+use mathlib.Core.Option.{Option, none, some}
+use lib.Dec.{eqb, leb}
+use borrow.Author.Tests.{leb-false}
 use lib.ListN.{length, getD, take, drop, length-take}
 use Rattle.layout.specs.Sizes.{nodeCount, imageWords, markAt, attestationAt, answerMax}
 use Rattle.layout.specs.Words.{bytes4}
-use Rattle.tree.specs.Nodes.{wellFormed, rootOf, holderOf, freeOf}
-use Rattle.tree.specs.Record.{isFree, isHolder, isRootNode}
-use Rattle.work.specs.Table.{indexOk}
+use Rattle.layout.specs.Refusals.{unfinished, unknownCode}
+use Rattle.tree.specs.Tree.{Tree, wellFormed, lowestFree}
+use Rattle.tree.specs.Nodes.{treeIn}
+use Rattle.work.specs.Table.{numberOf, indexOk}
+use Rattle.work.specs.Made.{workWith}
+use Rattle.work.specs.declared.Kind.{Kind}
 use Rattle.work.specs.declared.Put.{Put}
-use Rattle.opening.specs.Tasks.{Request, Task, noStores, keptBoot, disableCommand, disablingBoot, stash, update, coldBoot, Ruling, refused, accepted, View, Rule, rule, firstRefusal, Command, stashMeasurement, disableAttestation, identityKey, verifySignature, unknown, commandOf, requestLength, isUnknown, badChecksum, dpeResult, commandRules, commandTask, commandAnswer, answerOf, requestRules, requestAccepted, updateTask}
-use Rattle.opening.specs.Works.{workAt, plainWork, stashWork, updateWork}
+use Rattle.work.proofs.Plans.{apply, length-apply}
+use Rattle.opening.specs.Tasks.{Request, BootInputs, Task, noStores, keptBoot, disableCommand, disablingBoot, stash, update, Ruling, refused, accepted, View}
+use Rattle.opening.specs.Rules.{Verdict, refuse, decline, Rule, refuses, judged, decide, Command, stashMeasurement, disableAttestation, identityKey, verifySignature, unknownCommand, commandOf, stashCode, disableCode, identityCode, verifyCode, answerOf, declined, served, commandRules, requestRules, requestRuling, updateTask}
+use Rattle.opening.specs.Works.{factsOf, workAt}
 use Rattle.opening.specs.Openings.{viewIn, intact}
-use Rattle.history.specs.Ledger.{State, find, next, blank, stateOf, imageOf, storesOf, any, disables, isDisableCommand, isOff, viewOf}
+use Rattle.opening.specs.declared.Outcome.{Outcome}
+use Rattle.history.specs.Ledger.{Chain, State, treeAt, next, blank, stateOf, imageOf, any, disables, isNone, isDisableCommand, isOff, viewOf}
 use Rattle.history.specs.Demand.{Shut}
-use Rattle.history.proofs.Encoded.{length-image, mark-read, attestation-read, free-read}
-use Rattle.history.proofs.Good.{Good, good-shape, good-stash, good-update, good-command, good-boot, holder-below, root-below, holder-read, root-read, formed-good, matches-good}
-use Rattle.history.proofs.Plans.{apply, length-apply}
-use Rattle.history.proofs.Runs.{planAt, offPlan, command-plan, boot-plan, run-command, run-boot, run-stash, run-update, off-mark, off-shut}
+use Rattle.history.proofs.Encoded.{length-image, mark-read, attestation-read}
+use Rattle.history.proofs.Good.{Good, formed-good, good-tree, matches-good}
+use Rattle.history.proofs.Runs.{planAt, offPlan, off-mark, off-shut}
+use Rattle.history.proofs.Laws.{Allowed, Law, laws}
 
 -- attestation's word, from "is it off"
 abbrev pub attestationWord : Bool → ℕ
-attestationWord true = 0
-attestationWord false = 1
+attestationWord off = cond off 0 1
 
 -- the image that a history makes
 abbrev pub imageAfter : List Task → List ℕ
@@ -37,19 +44,52 @@ imageAfter h = imageOf 1 (attestationWord (any disables h)) (stateOf h)
 -- image, history, torn, unfinished. Nothing torn: the image is the history's, and a boot has disabled only where a command had. Torn: a disabling has
 -- run to its end since, or the mark is 0
 pub data Ground : List ℕ → List Task → Bool → Bool → Type 0 where
-  sound : {l : List ℕ} {h : List Task} → Good (stateOf h) → any disables h ≡ any isDisableCommand h → l ≡ imageAfter h → Ground l h false false
+  sound : {l : List ℕ} {h : List Task} → Good (stateOf h .chain) → any disables h ≡ any isDisableCommand h → l ≡ imageAfter h → Ground l h false false
   locked : {l : List ℕ} {h : List Task} → length l ≡ imageWords → getD l markAt 0 ≡ 1 → Shut l → Ground l h true false
   broken : {l : List ℕ} {h : List Task} → length l ≡ imageWords → getD l markAt 0 ≡ 0 → Ground l h true true
 
--- a task that may be opened there
-abbrev pub Fits : List Task → Bool → Bool → Task → Type 0
-Fits h t u noStores = u ≡ false
-Fits h t u keptBoot = t ≡ false
-Fits h t u disableCommand = u ≡ false
-Fits h t u disablingBoot = isOff h t ≡ true
-Fits h t u (stash ty d svn c) = (t ≡ false) × (leb nodeCount (freeOf (imageOf 1 1 (stateOf h))) ≡ false)
-Fits h t u (update d s) = t ≡ false
-Fits h t u (coldBoot d s) = ⊥
+pub ground-length : {l : List ℕ} {h : List Task} {t u : Bool} → Ground l h t u → length l ≡ imageWords
+ground-length {h = h} (sound g o e) = ap length e ∙ length-image 1 (attestationWord (any disables h)) (stateOf h) (g .shape)
+ground-length (locked n m s) = n
+ground-length (broken n m) = n
+
+-- nothing torn, nothing unfinished
+pub calm : {l : List ℕ} {h : List Task} {t u : Bool} → Ground l h t u → t ≡ false → u ≡ false
+calm (sound g o e) q = refl
+calm (locked n m s) q = refl
+calm (broken n m) q = q
+
+-- ---- a task that may be opened there
+
+-- the number of its stores, at a chain
+abbrev pub storesAt : Chain → Task → ℕ
+storesAt x tk = numberOf (factsOf tk .kind (treeAt x))
+
+-- where one was torn: a task that does not look at the nodes, and stores only if it disables
+pub record Steady (tk : Task) : Type 0 where
+  pub same : (a b : Tree) → factsOf tk .kind a ≡ factsOf tk .kind b
+  pub index : (a : Tree) → indexOk (factsOf tk .kind a) ≡ true
+  pub quiet : (a : Tree) → 0 < numberOf (factsOf tk .kind a) → disables tk ≡ true
+
+pub record Fits (h : List Task) (t u : Bool) (tk : Task) : Type 0 where
+  -- with nothing to store: nothing is unfinished, or nothing was torn
+  pub rest : storesAt (stateOf h .chain) tk ≡ 0 → (u ≡ false) ⊎ (t ≡ false)
+  pub torn : t ≡ true → Steady tk
+  pub allowed : t ≡ false → Allowed (stateOf h .chain) tk
+  -- a boot disables only where attestation is off
+  pub off : t ≡ false → disables tk ≡ true → (isDisableCommand tk ≡ true) ⊎ (any disables h ≡ true)
+
+-- the kind of work that the image gives is the ledger's
+pub kind-same : {l : List ℕ} {h : List Task} {t u : Bool} → Ground l h t u → (tk : Task) → Fits h t u tk → factsOf tk .kind (treeIn l) ≡ factsOf tk .kind (treeAt (stateOf h .chain))
+kind-same {l} {h} (sound g o e) tk f = ap (factsOf tk .kind) (ap treeIn e ∙ good-tree 1 (attestationWord (any disables h)) (stateOf h) g)
+kind-same {l} {h} (locked n m s) tk f = f .torn refl .same (treeIn l) (treeAt (stateOf h .chain))
+kind-same {l} {h} (broken n m) tk f = f .torn refl .same (treeIn l) (treeAt (stateOf h .chain))
+
+-- no index of an opened work is beyond the nodes
+pub index-ok : {l : List ℕ} {h : List Task} {t u : Bool} → Ground l h t u → (tk : Task) → Fits h t u tk → indexOk (factsOf tk .kind (treeIn l)) ≡ true
+index-ok {l} {h} (sound g o e) tk f = ap indexOk (kind-same (sound g o e) tk f) ∙ laws tk .index (stateOf h .chain) g (f .allowed refl)
+index-ok {l} (locked n m s) tk f = f .torn refl .index (treeIn l)
+index-ok {l} (broken n m) tk f = f .torn refl .index (treeIn l)
 
 -- ---- one task more in the history
 
@@ -65,22 +105,21 @@ state-snoc : (h : List Task) (t : Task) → stateOf (h ++ (t ∷ [])) ≡ next (
 unfolding stateOf
 state-snoc h t = foldl-append next blank h (t ∷ [])
 
--- from the image of the next state to that of the longer history
-sound-snoc : {l : List ℕ} (h : List Task) (t : Task) (o : Bool) → Good (next (stateOf h) t) → (any disables h || disables t) ≡ o
-    → (any isDisableCommand h || isDisableCommand t) ≡ o → l ≡ imageOf 1 (attestationWord o) (next (stateOf h) t) → Ground l (h ++ (t ∷ [])) false false
-sound-snoc h t o g p q e =
-    sound (subst Good (sym (state-snoc h t)) g) (any-snoc disables h t ∙ p ∙ sym (any-snoc isDisableCommand h t ∙ q))
-    (e ∙ (λ i. imageOf 1 (attestationWord (sym (any-snoc disables h t ∙ p) i)) (sym (state-snoc h t) i)))
+-- "off by a disabling" and "off by a command" stay the same
+same-off : (a b c d : Bool) → a ≡ b → (c ≡ true → (d ≡ true) ⊎ (a ≡ true)) → (d ≡ true → c ≡ true) → (a || c) ≡ (b || d)
+same-off true true c d e f g = refl
+same-off true false c d e f g = absurd (true≢false e)
+same-off false true c d e f g = absurd (false≢true e)
+same-off false false true true e f g = refl
+same-off false false true false e f g = elim (f refl) [ inl q ↦ sym q | inr q ↦ sym q ]
+same-off false false false true e f g = g refl
+same-off false false false false e f g = refl
 
-pub ground-length : {l : List ℕ} {h : List Task} {t u : Bool} → Ground l h t u → length l ≡ imageWords
-ground-length {h = h} (sound g o e) =
-    ap length e ∙ length-image 1 (attestationWord (any disables h)) (stateOf h) (good-shape (stateOf h) g)
-ground-length (locked n m s) = n
-ground-length (broken n m) = n
-
--- a free node in the ledger's image is one in its list
-room : (h : List Task) → Good (stateOf h) → leb nodeCount (freeOf (imageOf 1 1 (stateOf h))) ≡ false → find isFree (stateOf h .nodes) < nodeCount
-room h g e = omega (arith, leb-false nodeCount (freeOf (imageOf 1 1 (stateOf h))) e, free-read 1 1 (stateOf h) (good-shape (stateOf h) g))
+word-off : (a c : Bool) → cond c 0 (attestationWord a) ≡ attestationWord (a || c)
+word-off true true = refl
+word-off true false = refl
+word-off false true = refl
+word-off false false = refl
 
 -- ---- a work that is finished
 
@@ -89,73 +128,66 @@ shut-off l h ps n e =
     locked (length-apply ps l ∙ n) (ap (λ (p : List Put). getD (apply p l) markAt 0) e ∙ off-mark l n)
     (subst (λ (p : List Put). Shut (apply p l)) (sym e) (off-shut l n))
 
-pub finish : {l : List ℕ} {h : List Task} {t u : Bool} → Ground l h t u → (tk : Task) → Fits h t u tk → 0 < storesOf tk
+pub finish : {l : List ℕ} {h : List Task} {t u : Bool} → Ground l h t u → (tk : Task) → Fits h t u tk → 0 < storesAt (stateOf h .chain) tk
     → Ground (apply (planAt l tk) l) (h ++ (tk ∷ [])) t false
-finish g noStores f p = absurd (not-suc-le-zero p)
-finish g keptBoot f p = absurd (not-suc-le-zero p)
-finish {l} {h} (sound g o e) disableCommand f p =
-    sound-snoc h disableCommand true (good-command (stateOf h) g) (or-true (any disables h)) (or-true (any isDisableCommand h))
-    (ap (λ (z : List ℕ). apply (planAt z disableCommand) z) e ∙ run-command (attestationWord (any disables h)) (stateOf h))
-finish {l} {h} (sound g o e) disablingBoot f p =
-    sound-snoc h disablingBoot true (good-boot (stateOf h) g) (or-true (any disables h)) (or-false (any isDisableCommand h) ∙ sym o ∙ f)
-    (ap (λ (z : List ℕ). apply (planAt z disablingBoot) z) e ∙ run-boot (attestationWord (any disables h)) (stateOf h))
-finish {l} {h} (sound g o e) (stash ty d svn c) f p =
-    sound-snoc h (stash ty d svn c) (any disables h) (good-stash (stateOf h) ty d svn c g (room h g (f .1))) (or-false (any disables h))
-    (or-false (any isDisableCommand h) ∙ sym o)
-    (ap (λ (z : List ℕ). apply (planAt z (stash ty d svn c)) z) e
-    ∙ run-stash (attestationWord (any disables h)) (stateOf h) g ty d svn c (room h g (f .1)))
-finish {l} {h} (sound g o e) (update d s) f p =
-    sound-snoc h (update d s) (any disables h) (good-update (stateOf h) d s g) (or-false (any disables h)) (or-false (any isDisableCommand h) ∙ sym o)
-    (ap (λ (z : List ℕ). apply (planAt z (update d s)) z) e ∙ run-update (attestationWord (any disables h)) (stateOf h) g d s)
-finish (sound g o e) (coldBoot d s) f p = absurd f
-finish {l} {h} (locked n m s) disableCommand f p = shut-off l (h ++ (disableCommand ∷ [])) (planAt l disableCommand) n (command-plan l)
-finish {l} {h} (locked n m s) disablingBoot f p = shut-off l (h ++ (disablingBoot ∷ [])) (planAt l disablingBoot) n (boot-plan l)
-finish (locked n m s) (stash ty d svn c) f p = absurd (true≢false (f .0))
-finish (locked n m s) (update d k) f p = absurd (true≢false f)
-finish (locked n m s) (coldBoot d k) f p = absurd f
-finish {l} {h} (broken n m) disableCommand f p = absurd (true≢false f)
-finish {l} {h} (broken n m) disablingBoot f p = shut-off l (h ++ (disablingBoot ∷ [])) (planAt l disablingBoot) n (boot-plan l)
-finish (broken n m) (stash ty d svn c) f p = absurd (true≢false (f .0))
-finish (broken n m) (update d s) f p = absurd (true≢false f)
-finish (broken n m) (coldBoot d s) f p = absurd f
+finish {l} {h} (sound g o e) tk f p =
+    sound (subst (λ (x : State). Good (x .chain)) (sym (state-snoc h tk)) (law .keeps (stateOf h .chain) g a))
+    (any-snoc disables h tk
+    ∙ same-off (any disables h) (any isDisableCommand h) (disables tk) (isDisableCommand tk) o (f .off refl) (by-command (factsOf tk .disables) (isNone (factsOf tk .boot)))
+    ∙ sym (any-snoc isDisableCommand h tk))
+    (ap (λ (z : List ℕ). apply (planAt z tk) z) e
+    ∙ law .runs (attestationWord (any disables h)) (stateOf h) g a p
+    ∙ (λ i. imageOf 1 ((word-off (any disables h) (disables tk) ∙ ap attestationWord (sym (any-snoc disables h tk))) i) (sym (state-snoc h tk) i)))
+  where
+    law : Law tk
+    law = laws tk
+
+    a : Allowed (stateOf h .chain) tk
+    a = f .allowed refl
+
+    by-command : (x y : Bool) → (x && y) ≡ true → x ≡ true
+    by-command true y q = refl
+    by-command false y q = q
+finish {l} {h} (locked n m s) tk f p =
+    shut-off l (h ++ (tk ∷ [])) (planAt l tk) n (laws tk .off (f .torn refl .quiet (treeAt (stateOf h .chain)) p) l)
+finish {l} {h} (broken n m) tk f p =
+    shut-off l (h ++ (tk ∷ [])) (planAt l tk) n (laws tk .off (f .torn refl .quiet (treeAt (stateOf h .chain)) p) l)
 
 -- ---- the rules see the same in the image and in the ledger
 
 -- the request rules' decision
 unfoldable pub ruling : View → Request → Ruling
-ruling v r = firstRefusal (requestRules v r) (requestAccepted v r)
+ruling v r = requestRuling (requestRules v r) r
+
+-- what holds of each command, by the table
+pub commands : (P : Command → Type 0) → P stashMeasurement → P disableAttestation → P identityKey → P verifySignature → P unknownCommand → (code : ℕ) → P (commandOf code)
+commands P s d i v u code = go (eqb code stashCode) (eqb code disableCode) (eqb code identityCode) (eqb code verifyCode)
+  where
+    go : (w x y z : Bool) → P (cond w stashMeasurement (cond x disableAttestation (cond y identityKey (cond z verifySignature unknownCommand))))
+    go true x y z = s
+    go false true y z = d
+    go false false true z = i
+    go false false false true = v
+    go false false false false = u
 
 -- where attestation is off the rules do not look at the nodes
 pub off-rules : (v w : View) (r : Request) → v .done ≡ w .done → v .on ≡ false → w .on ≡ false → ruling v r ≡ ruling w r
-unfolding ruling dpeResult
+unfolding ruling
 off-rules v w r p a b =
-    (λ i. ruling (record { done = p i; on = a i; formed = v .formed; full = v .full }) r)
-    ∙ known (commandOf (r .code))
-    ∙ (λ i. ruling (record { done = w .done; on = sym b i; formed = w .formed; full = w .full }) r)
+    (λ i. ruling (record { done = p i; on = a i; nodes = v .nodes }) r)
+    ∙ commands (λ (c : Command). decided c (off (v .nodes)) ≡ decided c (off (w .nodes))) refl refl refl refl refl (r .code)
+    ∙ (λ i. ruling (record { done = w .done; on = sym b i; nodes = w .nodes }) r)
   where
-    off : Bool → Bool → View
-    off f g = record { done = w .done; on = false; formed = f; full = g }
+    off : Tree → View
+    off t = record { done = w .done; on = false; nodes = t }
 
     -- the rules, with the command as a variable
-    rules : Command → View → Ruling
-    rules c v =
-        firstRefusal
-        (rule (not (v .done)) 2
-        ∷ rule (isUnknown c) 3
-        ∷ rule (not (eqb (length (r .bytes)) (requestLength c))) 4
-        ∷ rule (badChecksum (r .code) (r .bytes)) 0x4243484B
-        ∷ commandRules c v r)
-        (accepted (commandTask c v r) (answerOf (r .code) (commandAnswer c v r)))
-
-    known : (c : Command) → rules c (off (v .formed) (v .full)) ≡ rules c (off (w .formed) (w .full))
-    known stashMeasurement = refl
-    known disableAttestation = refl
-    known identityKey = refl
-    known verifySignature = refl
-    known unknown = refl
+    decided : Command → View → Ruling
+    decided c v =
+        decide (refuses unfinished (not (v .done)) ∷ refuses unknownCode (not (c .known)) ∷ commandRules c v r) (declined r) (served c r)
 
 -- an unfinished mark refuses every request
-unfinished-rules : (v : View) (r : Request) → v .done ≡ false → ruling v r ≡ refused 2
+unfinished-rules : (v : View) (r : Request) → v .done ≡ false → ruling v r ≡ refused unfinished
 unfolding ruling
 unfinished-rules v r e = rw e
 
@@ -165,7 +197,7 @@ attestation-on false = refl
 
 pub rule-same : {l : List ℕ} {h : List Task} {t u : Bool} → Ground l h t u → (r : Request) → ruling (viewIn l) r ≡ ruling (viewOf h t u) r
 unfolding viewIn viewOf
-rule-same {l} {h} (sound g o e) r = ap (λ (z : List ℕ). ruling (viewIn z) r) e ∙ (λ i. ruling (record { done = done i; on = on i; formed = formed i; full = full i }) r)
+rule-same {l} {h} (sound g o e) r = ap (λ (z : List ℕ). ruling (viewIn z) r) e ∙ (λ i. ruling (record { done = done i; on = on i; nodes = good-tree 1 a x g i }) r)
   where
     a : ℕ
     a = attestationWord (any disables h)
@@ -178,75 +210,106 @@ rule-same {l} {h} (sound g o e) r = ap (λ (z : List ℕ). ruling (viewIn z) r) 
 
     on : eqb (getD (imageOf 1 a x) attestationAt 0) 1 ≡ not (any disables h)
     on = rw (attestation-read 1 a x) (attestation-on (any disables h))
-
-    formed : wellFormed (imageOf 1 a x) ≡ wellFormed (imageOf 1 1 x)
-    formed = formed-good 1 a x g ∙ sym (formed-good 1 1 x g)
-
-    full : leb nodeCount (freeOf (imageOf 1 a x)) ≡ leb nodeCount (freeOf (imageOf 1 1 x))
-    full = ap (leb nodeCount) (free-read 1 a x (good-shape x g) ∙ sym (free-read 1 1 x (good-shape x g)))
 rule-same {l} {h} (locked n m s) r = off-rules (viewIn l) (viewOf h true false) r (rw m) (rw (s .off)) refl
 rule-same {l} {h} (broken n m) r = unfinished-rules (viewIn l) r (rw m) ∙ sym (unfinished-rules (viewOf h true true) r refl)
 
 -- ---- what the rules accept may be opened; its answer is not longer than the longest, and only a boot opens a boot's task
 
 abbrev pub isBoot : Task → Bool
-isBoot noStores = false
-isBoot keptBoot = true
-isBoot disableCommand = false
-isBoot disablingBoot = true
-isBoot (stash ty d svn c) = false
-isBoot (update d s) = true
-isBoot (coldBoot d s) = true
+isBoot tk = not (isNone (factsOf tk .boot))
 
 abbrev pub FitsRuling : List Task → Bool → Bool → Bool → Ruling → Type 0
 FitsRuling h t u b (refused n) = Unit {0}
 FitsRuling h t u b (accepted tk a) = Fits h t u tk × (length a ≤ answerMax) × (b ≡ isBoot tk)
 
-pub fits-first : (h : List Task) (t u b : Bool) (rs : List Rule) (R : Ruling) → FitsRuling h t u b R → FitsRuling h t u b (firstRefusal rs R)
-fits-first h t u b [] R f = f
-fits-first h t u b (r ∷ rs) R f = go (r .applies) (fits-first h t u b rs R f)
+-- no rule of a list applies
+abbrev NoneApply : List Rule → Type 0
+NoneApply [] = Unit {0}
+NoneApply (r ∷ rs) = (r .applies ≡ false) × NoneApply rs
+
+-- what holds of a refusal, of a decline and, where no rule applies, of the rest holds of what the list comes to
+pub decided : (P : Ruling → Type 0) (rs : List Rule) (D : ℕ → Ruling) (R : Ruling) → ((n : ℕ) → P (refused n)) → ((n : ℕ) → P (D n)) → (NoneApply rs → P R) → P (decide rs D R)
+decided P [] D R f d o = o tt
+decided P (r ∷ rs) D R f d o = go (r .applies) (r .verdict) refl (λ e. decided P rs D R f d (λ n. o (e, n)))
   where
-    go : (x : Bool) → FitsRuling h t u b (firstRefusal rs R) → FitsRuling h t u b (cond x (refused (r .number)) (firstRefusal rs R))
-    go true p = tt
-    go false p = p
+    go : (b : Bool) (v : Verdict) → r .applies ≡ b → (r .applies ≡ false → P (decide rs D R)) → P (cond b (judged D v) (decide rs D R))
+    go true (refuse n) e on = f n
+    go true (decline n) e on = d n
+    go false v e on = on e
 
 left-false : (t x : Bool) → not (t || x) ≡ true → t ≡ false
 left-false true x e = sym e
 left-false false x e = refl
+
+negated : (b : Bool) → not b ≡ false → b ≡ true
+negated true h = refl
+negated false h = sym h
 
 -- checksum and status, eight bytes, and at most the two halves of a key
 short : (code : ℕ) (rest : List ℕ) → length rest ≤ 96 → length (answerOf code rest) ≤ answerMax
 unfolding answerOf
 short code rest h = omega arith
 
-fits-command : (h : List Task) (t : Bool) (c : Command) (v : View) (r : Request) → (v .on ≡ true → t ≡ false)
-    → v .full ≡ leb nodeCount (freeOf (imageOf 1 1 (stateOf h)))
-    → FitsRuling h t false false (accepted (commandTask c v r) (answerOf (r .code) (commandAnswer c v r)))
-fits-command h t stashMeasurement v r p q = go (v .on) p (v .full) q
-  where
-    answer : List ℕ
-    answer = answerOf (r .code) (bytes4 (dpeResult v))
+-- nothing to store, where nothing is unfinished
+idle-fits : (h : List Task) (t : Bool) → Fits h t false noStores
+unfolding numberOf indexOk
+idle-fits h t =
+    record {
+      rest = λ e. inl refl;
+      torn = λ e. record { same = λ a b. refl; index = λ a. refl; quiet = λ a p. absurd (not-suc-le-zero p) };
+      allowed = λ e. tt;
+      off = λ e q. absurd (false≢true q);
+    }
 
-    small : length answer ≤ answerMax
-    small = short (r .code) (bytes4 (dpeResult v)) (omega arith)
+disable-fits : (h : List Task) (t : Bool) → Fits h t false disableCommand
+unfolding indexOk
+disable-fits h t =
+    record {
+      rest = λ e. inl refl;
+      torn = λ e. record { same = λ a b. refl; index = λ a. refl; quiet = λ a p. refl };
+      allowed = λ e. tt;
+      off = λ e q. inl refl;
+    }
 
-    go : (a : Bool) → (a ≡ true → t ≡ false) → (b : Bool) → b ≡ leb nodeCount (freeOf (imageOf 1 1 (stateOf h)))
-        → FitsRuling h t false false (accepted (commandTask stashMeasurement (record { done = v .done; on = a; formed = v .formed; full = b }) r) answer)
-    go true k true e = unfold dpeResult in (refl, small, refl)
-    go true k false e = unfold dpeResult in ((k refl, sym e), small, refl)
-    go false k b e = unfold dpeResult in (refl, small, refl)
-fits-command h t disableAttestation v r p q = (refl, short (r .code) [] (omega arith), refl)
-fits-command h t identityKey v r p q =
-    (refl, short (r .code) (take 96 (drop 304 (r .handoff))) (omega (arith, length-take 96 (drop 304 (r .handoff)))), refl)
-fits-command h t verifySignature v r p q = (refl, short (r .code) [] (omega arith), refl)
-fits-command h t unknown v r p q = (refl, short (r .code) [] (omega arith), refl)
+module _ (h : List Task) (t : Bool) (v : View) (r : Request) (on : v .on ≡ true → t ≡ false) (nodes : v .nodes ≡ treeAt (stateOf h .chain)) where
+  -- a command that nothing refused or declined
+  command-fits : (c : Command) → Type 0
+  command-fits c = NoneApply (c .rules v r) → FitsRuling h t false false (served c r)
+
+  stash-fits : command-fits stashMeasurement
+  unfolding command-fits numberOf
+  stash-fits n =
+      let torn = on (negated (v .on) (n .0)) in
+      (
+        record {
+          rest = λ e. inl refl;
+          torn = λ e. absurd (true≢false (sym e ∙ torn));
+          allowed = λ e.
+              (let free : leb nodeCount (lowestFree nodeCount (v .nodes)) ≡ false = n .1 .1 .0 in
+              subst (λ (x : Tree). lowestFree nodeCount x < nodeCount) nodes (omega (arith, leb-false nodeCount (lowestFree nodeCount (v .nodes)) free)));
+          off = λ e q. absurd (false≢true q);
+        },
+        short (r .code) (bytes4 0) (omega arith),
+        refl,
+      )
+
+  fits-command : NoneApply (commandOf (r .code) .rules v r) → FitsRuling h t false false (served (commandOf (r .code)) r)
+  unfolding command-fits
+  fits-command =
+      commands command-fits stash-fits (λ n. (disable-fits h t, short (r .code) [] (omega arith), refl))
+      (λ n. (idle-fits h t, short (r .code) (take 96 (drop 304 (r .handoff))) (omega (arith, length-take 96 (drop 304 (r .handoff)))), refl))
+      (λ n. (idle-fits h t, short (r .code) [] (omega arith), refl))
+      (λ n. (idle-fits h t, short (r .code) [] (omega arith), refl))
+      (r .code)
 
 pub fits-rule : (h : List Task) (t u : Bool) (r : Request) → FitsRuling h t u false (ruling (viewOf h t u) r)
 unfolding ruling viewOf
 fits-rule h t true r = tt
 fits-rule h t false r =
-    fits-first h t false false (requestRules (viewOf h t false) r) (requestAccepted (viewOf h t false) r)
-    (fits-command h t (commandOf (r .code)) (viewOf h t false) r (left-false t (any disables h)) refl)
+    decided (FitsRuling h t false false) (requestRules (viewOf h t false) r) (declined r) (served (commandOf (r .code)) r)
+    (λ n. tt)
+    (λ n. (idle-fits h t, short (r .code) (bytes4 n) (omega arith), refl))
+    (λ n. fits-command h t (viewOf h t false) r (left-false t (any disables h)) refl (n .1 .1 .1 .1))
 
 -- ---- the update boot decides as the ledger does
 
@@ -254,7 +317,13 @@ pub intact-same : {l : List ℕ} {h : List Task} {t u : Bool} → Ground l h t u
 unfolding intact
 intact-same {l} {h} (sound g o e) =
     ap intact e
-    ∙ rw (mark-read 1 a x, attestation-read 1 a x, attestation-on (any disables h), formed-good 1 a x g, matches-good 1 a x g) (last (not (any disables h)))
+    ∙ rw (
+      mark-read 1 a x,
+      attestation-read 1 a x,
+      attestation-on (any disables h),
+      ap (wellFormed nodeCount) (good-tree 1 a x g) ∙ formed-good (x .chain) g,
+      matches-good 1 a x g,
+    ) (last (not (any disables h)))
   where
     a : ℕ
     a = attestationWord (any disables h)
@@ -268,42 +337,44 @@ intact-same {l} {h} (sound g o e) =
 intact-same {l} {h} (locked n m s) = rw (m, s .off)
 intact-same {l} {h} (broken n m) = rw m
 
-pub fits-boot : (h : List Task) (t u v : Bool) (d s : List ℕ) → FitsRuling h t u true (accepted (updateTask (not (isOff h t)) v d s) [])
-fits-boot h t u v d s = go (isOff h t) refl v
+pub fits-boot : (h : List Task) (t u v : Bool) (b : BootInputs) → FitsRuling h t u true (accepted (updateTask (not (isOff h t)) v b) [])
+unfolding numberOf indexOk
+fits-boot h t u v b = go (isOff h t) refl v
   where
-    go : (o : Bool) → isOff h t ≡ o → (w : Bool) → FitsRuling h t u true (accepted (updateTask (not o) w d s) [])
-    go true e w = (e, zero-le, refl)
-    go false e true = (left-false t (any disables h) (ap not e), zero-le, refl)
-    go false e false = (left-false t (any disables h) (ap not e), zero-le, refl)
+    kept-torn : isOff h t ≡ false → t ≡ false
+    kept-torn e = left-false t (any disables h) (ap not e)
 
--- nothing torn, nothing unfinished
-pub calm : {l : List ℕ} {h : List Task} {t u : Bool} → Ground l h t u → t ≡ false → u ≡ false
-calm (sound g o e) q = refl
-calm (locked n m s) q = refl
-calm (broken n m) q = q
-
--- ---- no index of an opened work is beyond the nodes
-
-pub index-ok : {l : List ℕ} {h : List Task} {t u : Bool} → Ground l h t u → (tk : Task) → Fits h t u tk → (a : List ℕ) → indexOk (workAt l tk a .kind) ≡ true
-unfolding indexOk workAt plainWork stashWork updateWork
-index-ok g noStores f a = refl
-index-ok g keptBoot f a = refl
-index-ok g disableCommand f a = refl
-index-ok g disablingBoot f a = refl
-index-ok {l} {h} (sound g o e) (stash ty d svn c) f a =
-    ap (λ (z : List ℕ). ltb (freeOf z) nodeCount && ltb (holderOf z) nodeCount) e
-    ∙ rw (free-read 1 b x (good-shape x g), holder-read 1 b x g, lt-ltb (find isFree (x .nodes)) nodeCount (room h g (f .1)), lt-ltb (find isHolder (x .nodes)) nodeCount (holder-below x g))
-  where
-    b : ℕ
-    b = attestationWord (any disables h)
-
-    x : State
-    x = stateOf h
-index-ok (locked n m s) (stash ty d svn c) f a = absurd (true≢false (f .0))
-index-ok (broken n m) (stash ty d svn c) f a = absurd (true≢false (f .0))
-index-ok {l} {h} (sound g o e) (update d s) f a =
-    ap (λ (z : List ℕ). ltb (rootOf z) nodeCount) e
-    ∙ rw (root-read 1 (attestationWord (any disables h)) (stateOf h) g) (lt-ltb (find isRootNode (stateOf h .nodes)) nodeCount (root-below (stateOf h) g))
-index-ok (locked n m s) (update d k) f a = absurd (true≢false f)
-index-ok (broken n m) (update d s) f a = absurd (true≢false f)
-index-ok g (coldBoot d s) f a = absurd f
+    go : (o : Bool) → isOff h t ≡ o → (w : Bool) → FitsRuling h t u true (accepted (updateTask (not o) w b) [])
+    go true e w =
+        (
+          record {
+            rest = λ z. absurd (omega arith);
+            torn = λ q. record { same = λ x y. refl; index = λ x. refl; quiet = λ x p. refl };
+            allowed = λ q. tt;
+            off = λ q z. inr (ap (λ (x : Bool). x || any disables h) (sym q) ∙ e);
+          },
+          zero-le,
+          refl,
+        )
+    go false e true =
+        (
+          record {
+            rest = λ z. inr (kept-torn e);
+            torn = λ q. absurd (true≢false (sym q ∙ kept-torn e));
+            allowed = λ q. tt;
+            off = λ q z. absurd (false≢true z);
+          },
+          zero-le,
+          refl,
+        )
+    go false e false =
+        (
+          record {
+            rest = λ z. inr (kept-torn e);
+            torn = λ q. absurd (true≢false (sym q ∙ kept-torn e));
+            allowed = λ q. tt;
+            off = λ q z. absurd (false≢true z);
+          },
+          zero-le,
+          refl,
+        )

@@ -1,12 +1,10 @@
--- Laws that belong to no one function.
-pub mod Blocks
+-- The proof of demand 3: the encoding of a state (Encoded), what holds of every history's chain (Good), stores into an image (Stores), what each kind of
+-- work does (Runs, Laws), image and ledger in step between works and within (Ground, Sim), the theorem (Demand), and what it says of two lists (Check).
 pub mod Encoded
-pub mod Tree
-pub mod Formed
-pub mod Good
-pub mod Plans
 pub mod Stores
+pub mod Good
 pub mod Runs
+pub mod Laws
 pub mod Ground
 pub mod Sim
 pub mod Demand

@@ -1,63 +1,77 @@
--- Refusal 11, "not well formed", never occurs after a cold boot that ran to its end. Assumes nothing.
+-- Refusal 11, "not well formed", never occurs after a cold boot that ran to its end: the only rule with that number does not apply to a good chain, and
+-- where attestation is off it is not reached. Assumes nothing.
 use mathlib.Core.Path.{_≡_, refl, sym, ap, _∙_, subst}
 use mathlib.Core.Logic.{_≢_}
 use Prim.Native.Nat.{ℕ}
 use native.Mathlib.Omega.{arith}
-use mathlib.Core.Bool.{Bool, true, false, cond, not, _&&_, true≢false}
-use mathlib.Core.List.{List, [], _∷_}
+use mathlib.Core.Bool.{Bool, true, false, cond, not, true≢false, false≢true}
+use mathlib.Core.List.{List, [], _∷_, _++_}
 use mathlib.Core.Option.{Option, none, some}
-use Rattle.work.specs.declared.Work.{Work}
-use Rattle.opening.specs.Tasks.{Request, Task, Ruling, refused, accepted, View, Rule, firstRefusal, Command, stashMeasurement, disableAttestation, identityKey, verifySignature, unknown, commandOf, commandRules, requestRules, requestAccepted, bootRules}
-use Rattle.opening.specs.Openings.{openColdBoot}
-use Rattle.opening.specs.declared.Outcome.the-variants.{Cold}
-use Rattle.opening.specs.declared.BootStatus.the-variants as bootStatus
-use Rattle.history.specs.Calls.{Call, request, updateBoot, store, powerCut, Result, refusal, opened, booted, stored, noWork, cutOff, Machine, Step, step, run, afterColdBoot}
-use Rattle.history.specs.Ledger.{Ledger, stateOf, any, disables, viewOf, ledgerRequest, ledgerBoot, bootRuling, ledgerStore, ledgerStep, ledgerRun, firstLedger}
+use lib.Dec.{ltb}
+use lib.ListN.{length, drop}
+use Rattle.layout.specs.Sizes.{nodeCount}
+use Rattle.layout.specs.Refusals.{wrongInputs, storesLeft, shortBuffer, notWellFormed}
+use Rattle.tree.specs.Tree.{wellFormed}
+use Rattle.opening.specs.Tasks.{Request, BootInputs, Task, Ruling, refused, accepted, View}
+use Rattle.opening.specs.Rules.{Verdict, refuse, decline, Rule, judged, decide, Command, commandOf, declined, served, requestRules, inputsOk, updateTask}
+use Rattle.opening.specs.Openings.{openColdBoot, bootNumber}
+use Rattle.history.specs.Calls.{Call, request, updateBoot, store, answer, powerCut, Result, refusal, opened, booted, stored, answered, noWork, cutOff, Machine, Step, step, run}
+use Rattle.history.specs.Ledger.{Job, Ledger, stateOf, isOff, letGo, viewOf, ledgerRequest, ledgerBoot, updateRuling, ledgerStore, ledgerAnswer, ledgerStep, ledgerRun, firstLedger}
+use Rattle.history.specs.Demand.{afterColdBoot}
 use Rattle.history.proofs.Good.{formed-good}
-use Rattle.history.proofs.Ground.{Ground, sound, locked, broken, ruling}
+use Rattle.history.proofs.Ground.{Ground, sound, locked, broken, ruling, commands}
 use Rattle.history.proofs.Sim.{Related, sim, sim-run, release, rule-torn}
 use Rattle.history.proofs.Demand.{cold-start, store-cases}
 
 abbrev NotRefused11 : Ruling → Type 0
-NotRefused11 (refused n) = n ≢ 11
+NotRefused11 (refused n) = n ≢ notWellFormed
 NotRefused11 (accepted t a) = Unit {0}
 
--- no rule that applies has the number 11
+abbrev Not11 : Verdict → Type 0
+Not11 (refuse n) = n ≢ notWellFormed
+Not11 (decline n) = Unit {0}
+
+-- no rule that is reached and applies has the number 11
 abbrev No11 : List Rule → Type 0
 No11 [] = Unit {0}
-No11 (r ∷ rs) = (r .applies ≡ true → r .number ≢ 11) × No11 rs
+No11 (r ∷ rs) = (r .applies ≡ true → Not11 (r .verdict)) × (r .applies ≡ false → No11 rs)
 
-no-11 : (rs : List Rule) (R : Ruling) → No11 rs → NotRefused11 R → NotRefused11 (firstRefusal rs R)
-no-11 [] R a p = p
-no-11 (r ∷ rs) R a p = go (r .applies) (a .0) (no-11 rs R (a .1) p)
+no-11 : (rs : List Rule) (r : Request) (R : Ruling) → No11 rs → NotRefused11 R → NotRefused11 (decide rs (declined r) R)
+no-11 [] q R a p = p
+no-11 (r ∷ rs) q R a p = go (r .applies) (r .verdict) (a .0) (λ e. no-11 rs q R (a .1 e) p) refl
   where
-    go : (b : Bool) → (b ≡ true → r .number ≢ 11) → NotRefused11 (firstRefusal rs R) → NotRefused11 (cond b (refused (r .number)) (firstRefusal rs R))
-    go true n p = n refl
-    go false n p = p
+    go : (b : Bool) (v : Verdict) → (b ≡ true → Not11 v) → (r .applies ≡ false → NotRefused11 (decide rs (declined q) R)) → r .applies ≡ b
+        → NotRefused11 (cond b (judged (declined q) v) (decide rs (declined q) R))
+    go true (refuse n) n11 on e = n11 refl
+    go true (decline n) n11 on e = tt
+    go false v n11 on e = on e
 
--- the command's own rules
-own-rules : (c : Command) (v : View) (r : Request) → (v .on && not (v .formed)) ≡ false → No11 (commandRules c v r)
-own-rules stashMeasurement v r e = (λ q. absurd (true≢false (sym q ∙ e)), tt)
-own-rules disableAttestation v r e = tt
-own-rules identityKey v r e = search arith
-own-rules verifySignature v r e = search arith
-own-rules unknown v r e = tt
+module _ (v : View) (r : Request) (formed : v .on ≡ true → wellFormed nodeCount (v .nodes) ≡ true) where
+  own-rules : (code : ℕ) → No11 (commandOf code .rules v r)
+  own-rules code =
+      commands (λ (c : Command). No11 (c .rules v r))
+      (λ e. tt, λ e. (λ q. absurd (true≢false (sym q ∙ ap not (formed (negated (v .on) e)))), λ q. (λ z. tt, λ z. tt)))
+      tt
+      (λ e z. omega arith, λ e. tt)
+      (λ e z. omega arith, λ e. tt)
+      tt
+      code
+    where
+      negated : (b : Bool) → not b ≡ false → b ≡ true
+      negated true h = refl
+      negated false h = sym h
 
-request-rules : (v : View) (r : Request) → (v .on && not (v .formed)) ≡ false → NotRefused11 (ruling v r)
-unfolding ruling
-request-rules v r e = no-11 (requestRules v r) (requestAccepted v r) (search (arith, own-rules (commandOf (r .code)) v r e)) tt
+  request-rules : NotRefused11 (ruling v r)
+  unfolding ruling
+  request-rules =
+      no-11 (requestRules v r) r (served (commandOf (r .code)) r)
+      (λ e z. omega arith, λ e. (λ q z. omega arith, λ q. (λ p z. omega arith, λ p. (λ s z. omega arith, λ s. own-rules (r .code))))) tt
 
 ground-rules : {l : List ℕ} {h : List Task} {t u : Bool} → Ground l h t u → (r : Request) → NotRefused11 (ruling (viewOf h t u) r)
-ground-rules {h = h} (sound g o e) r = request-rules (viewOf h false false) r formed
-  where
-    and-false : (b : Bool) → (b && false) ≡ false
-    and-false true = refl
-    and-false false = refl
-
-    formed : (viewOf h false false .on && not (viewOf h false false .formed)) ≡ false
-    formed = unfold viewOf in (rw (formed-good 1 1 (stateOf h) g) (and-false (not (any disables h))))
-ground-rules {h = h} (locked n m s) r = request-rules (viewOf h true false) r (unfold viewOf in refl)
-ground-rules {h = h} (broken n m) r = request-rules (viewOf h true true) r (unfold viewOf in refl)
+unfolding viewOf
+ground-rules {h = h} (sound g o e) r = request-rules (viewOf h false false) r (λ q. formed-good (stateOf h .chain) g)
+ground-rules {h = h} (locked n m s) r = request-rules (viewOf h true false) r (λ q. absurd (false≢true q))
+ground-rules {h = h} (broken n m) r = request-rules (viewOf h true true) r (λ q. absurd (false≢true q))
 
 -- ---- results
 
@@ -67,39 +81,57 @@ refusalOf (refusal n) = n
 refusalOf (opened k n a) = 0
 refusalOf (booted o k n) = 0
 refusalOf (stored n) = 0
+refusalOf (answered n w b) = 0
 refusalOf noWork = 0
 refusalOf cutOff = 0
 
-request-result : (b : Ledger) (R : Ruling) → NotRefused11 R → refusalOf (ledgerRequest b R .result) ≢ 11
+request-result : (b : Ledger) (R : Ruling) → NotRefused11 R → refusalOf (ledgerRequest b R .result) ≢ notWellFormed
 request-result b (refused n) o e = o e
 request-result b (accepted t a) o e = omega arith
 
-boot-result : (b : Ledger) (R : Ruling) → NotRefused11 R → refusalOf (ledgerBoot b R .result) ≢ 11
+boot-result : (b : Ledger) (R : Ruling) → NotRefused11 R → refusalOf (ledgerBoot b R .result) ≢ notWellFormed
 boot-result b (refused n) o e = o e
 boot-result b (accepted t a) o e = omega arith
 
-store-result : (b : Ledger) (d : Option Task) → refusalOf (ledgerStore b d .result) ≢ 11
+store-result : (b : Ledger) (d : Option Job) → refusalOf (ledgerStore b d .result) ≢ notWellFormed
 store-result b none = λ e. omega arith
-store-result b (some t) = store-cases (λ (x : Step Ledger). refusalOf (x .result) ≢ 11) b t (λ h u n e. omega arith) (λ e. omega arith)
+store-result b (some j) = store-cases (λ (x : Step Ledger). refusalOf (x .result) ≢ notWellFormed) b j (λ h u n e. omega arith) (λ e. omega arith)
 
-ledger-result : (m : Machine) (b : Ledger) (c : Call) → Related m b → refusalOf (ledgerStep b c .result) ≢ 11
+answer-result : (d : Option Job) (k : ℕ) (a : List ℕ) → refusalOf (ledgerAnswer d k a) ≢ notWellFormed
+answer-result none k a e = omega arith
+answer-result (some j) k a e = go (ltb k (j .stores)) (ltb (length a) (length (j .answer))) e
+  where
+    go : (x y : Bool)
+        → refusalOf (cond x (answered storesLeft 0 a) (cond y (answered shortBuffer 0 a) (answered 0 (length (j .answer)) (j .answer ++ drop (length (j .answer)) a)))) ≡ notWellFormed
+        → ⊥
+    go true y e = omega arith
+    go false true e = omega arith
+    go false false e = omega arith
+
+ledger-result : (m : Machine) (b : Ledger) (c : Call) → Related m b → refusalOf (ledgerStep b c .result) ≢ notWellFormed
 unfolding ledgerStep ruling
 ledger-result m b (request r) i =
     request-result b (ruling (viewOf (b .history) (b .torn) (b .unfinished)) r) (subst NotRefused11 (rule-torn i r) (ground-rules (release i) r))
-ledger-result m b (updateBoot d s v) i = boot-result b (bootRuling b d s v) (no-11 (bootRules d s) _ (search arith) tt)
+ledger-result m b (updateBoot x v) i =
+    boot-result b (updateRuling b x v) (boot-rules (inputsOk x))
+  where
+    boot-rules : (y : Bool) → NotRefused11 (cond (not y) (refused wrongInputs) (accepted (updateTask (not (isOff (letGo b .history) (letGo b .torn))) v x) []))
+    boot-rules true = tt
+    boot-rules false = λ z. omega arith
 ledger-result m b store i = store-result b (b .hand)
+ledger-result m b (answer a) i = answer-result (b .hand) (b .made) a
 ledger-result m b powerCut i = λ e. omega arith
 
 -- whatever the list, its last call is not refused with 11
-pub never-11 : (before d s : List ℕ) (w : Work) → openColdBoot before d s ≡ record { work = w; status = bootStatus.Ready Cold }
-    → (calls : List Call) (c : Call) → step (run (afterColdBoot before w) calls) c .result ≢ refusal 11
-never-11 before d s w e calls c z = ledger-result m b c i (ap refusalOf (sym (sim m b c i .result) ∙ z))
+pub never-11 : (before : List ℕ) (x : BootInputs) → bootNumber (openColdBoot before x .status) ≡ 0
+    → (calls : List Call) (c : Call) → step (run (afterColdBoot before x) calls) c .result ≢ refusal notWellFormed
+never-11 before x e calls c z = ledger-result m b c i (ap refusalOf (sym (sim m b c i .result) ∙ z))
   where
     m : Machine
-    m = run (afterColdBoot before w) calls
+    m = run (afterColdBoot before x) calls
 
     b : Ledger
-    b = ledgerRun (firstLedger d s) calls
+    b = ledgerRun (firstLedger x) calls
 
     i : Related m b
-    i = sim-run calls (afterColdBoot before w) (firstLedger d s) (cold-start before d s w e)
+    i = sim-run calls (afterColdBoot before x) (firstLedger x) (cold-start before x e)

@@ -1,31 +1,34 @@
 -- A work that runs to its end leaves the image of the next state; a disabling shuts any image. Assumes nothing.
 use mathlib.Core.Path.{_≡_, refl, sym, ap, _∙_, subst}
-use Prim.Native.Nat.{ℕ, zero, suc, _+_, _-_, _*_, _^_, _<_}
+use Prim.Native.Nat.{ℕ, zero, suc, _+_, _-_, _*_, _<_}
 use native.Mathlib.Nat.{add-zero, zero-add, add-comm, zero-mul, suc-mul, le-of-suc-le-suc, not-suc-le-zero}
 use native.Mathlib.Omega.{arith}
 use mathlib.Core.List.{List, [], _∷_, _++_, append-assoc, map}
 use mathlib.Core.Option.{Option, none, some}
 use lib.Dec.{lit<, lit≤}
-use lib.ListN.{length, getD, set, drop, replicate, length-append, length-set, List·getD-append, replicate-append-replicate}
-use lib.Seq.{sets, length-sets, getD-set-same, getD-set-other, getD-append-add, set-set}
-use Rattle.layout.specs.Sizes.{nodeCount, nodeWords, registerCount, registerWords, imageWords, markAt, attestationAt, secretAt, registerAt, nodeAt, currentRegister, journeyRegister, stashRegister, handleAt, handleWords, currentAt, cumulativeAt, typeAt, retiredWord}
-use Rattle.layout.specs.Words.{tab, zeros, wordsAt, words48, bytes48}
+use lib.ListN.{length, getD, set, drop, replicate, length-append, length-set, replicate-append-replicate}
+use lib.Seq.{sets, length-sets, getD-set-same, getD-set-other, set-set}
+use Rattle.layout.specs.Sizes.{nodeCount, nodeWords, registerCount, registerWords, imageWords, markAt, attestationAt, secretAt, registerAt, nodeAt, currentRegister, journeyRegister, stashRegister, handleAt, handleWords, currentAt, cumulativeAt, retiredWord}
+use Rattle.layout.specs.Words.{tab, zeros, wordsAt, words48, bytes48, flat}
+use Rattle.layout.proofs.Blocks.{sets-whole}
 use Rattle.layout.proofs.Tab.{length-zeros, getD-zeros}
 use Rattle.sha384.specs.Entries.{extended}
-use Rattle.tree.specs.Nodes.{cumulativeIn}
-use Rattle.tree.specs.Record.{Node, Handle, defaultHandle, retiredHandle, handleRow, nodeRow, slotRow, isFree, isRootNode, isHolder}
+use Rattle.tree.specs.Nodes.{treeIn, cumulativeIn}
+use Rattle.tree.specs.Tree.{Tree, defaultWords, rootIn, nodeWith, lowestFree}
+use Rattle.tree.specs.Record.{Node, retiredHandle, handleRow, nodeRow, placeRow, measurementsRow, withHandle, withCurrent, withCumulative}
+use Rattle.tree.proofs.Rows.{length48, length-row, store-handle, store-current, store-cumulative, retired-row, raw-current, raw-cumulative}
 use Rattle.work.specs.Table.{put, Run, one, fill, copy, stashRuns, disablingRuns, updateRuns, coldRuns, runsOf, numberOf}
+use Rattle.work.specs.Made.{workWith}
 use Rattle.work.specs.declared.Put.{Put}
+use Rattle.work.proofs.Plans.{apply, storesIn, EveryRun, every-stores, every-at, plan, length-plan, run-one, run-zeros, run-fill, run-copy, run-part}
 use Rattle.opening.specs.Values.{measured, childNode, rootNode}
-use Rattle.opening.specs.Tasks.{Task, noStores, keptBoot, disableCommand, disablingBoot, stash, update, coldBoot}
-use Rattle.opening.specs.Works.{plainWork, stashWork, rootValues, updateWork, coldWork, workAt}
-use Rattle.history.specs.Ledger.{State, find, retired, renewed, next, flat, registerRows, nodeRows, imageOf, storesOf}
+use Rattle.opening.specs.Tasks.{BootInputs, Measurement, Task, disableCommand, disablingBoot, stash, update, coldBoot}
+use Rattle.opening.specs.Works.{factsOf, workAt}
+use Rattle.history.specs.Ledger.{Chain, State, treeAt, changed, renewed, nextChain, next, registerRows, nodeRows, imageOf}
 use Rattle.history.specs.Demand.{Shut}
-use Rattle.history.proofs.Blocks.{sets-skip, sets-within, sets-whole}
-use Rattle.history.proofs.Encoded.{length-row, register-read, free-read}
-use Rattle.history.proofs.Good.{Good, good-shape, holder-below, root-below, holder-slot, root-slot, holder-read, root-read, cumulative-read}
-use Rattle.history.proofs.Plans.{apply, storesIn, EveryRun, every-stores, every-at, plan, length-plan, run-one, run-zeros, run-fill, run-copy, run-part}
-use Rattle.history.proofs.Stores.{withSecret, withRegister, withNode, Counted, counted-secret, counted-register, counted-node, length48, store-mark, store-attestation, sets-secret, sets-register, sets-node}
+use Rattle.history.proofs.Encoded.{register-read}
+use Rattle.history.proofs.Good.{Good, root-below, root-node, holder-below, holder-node, holder-apart, good-tree, cumulative-read}
+use Rattle.history.proofs.Stores.{withSecret, withRegister, withNode, registerSet, nodeSet, Counted, counted-register, counted-node, store-mark, store-attestation, sets-secret, sets-register, sets-node}
 
 -- ---- the stores of a task's work, at an image: the answer has no part in them
 
@@ -33,28 +36,12 @@ unfoldable pub planAt : List ℕ → Task → List Put
 planAt l t = plan (workAt l t [])
 
 pub plan-answer : (l : List ℕ) (t : Task) (a : List ℕ) → plan (workAt l t a) ≡ planAt l t
-unfolding planAt plan runsOf workAt plainWork stashWork updateWork coldWork
-plan-answer l noStores a = refl
-plan-answer l keptBoot a = refl
-plan-answer l disableCommand a = refl
-plan-answer l disablingBoot a = refl
-plan-answer l (stash ty d svn c) a = refl
-plan-answer l (update d s) a = refl
-plan-answer l (coldBoot d s) a = refl
+unfolding planAt plan runsOf workAt workWith
+plan-answer l t a = refl
 
-pub number-at : (l : List ℕ) (t : Task) (a : List ℕ) → numberOf (workAt l t a .kind) ≡ storesOf t
-unfolding numberOf workAt plainWork stashWork updateWork coldWork
-number-at l noStores a = refl
-number-at l keptBoot a = refl
-number-at l disableCommand a = refl
-number-at l disablingBoot a = refl
-number-at l (stash ty d svn c) a = refl
-number-at l (update d s) a = refl
-number-at l (coldBoot d s) a = refl
-
-pub length-at : (l : List ℕ) (t : Task) → length (planAt l t) ≡ storesOf t
-unfolding planAt
-length-at l t = length-plan (workAt l t []) ∙ number-at l t []
+pub length-at : (l : List ℕ) (t : Task) → length (planAt l t) ≡ numberOf (factsOf t .kind (treeIn l))
+unfolding planAt workAt workWith
+length-at l t = length-plan (workAt l t [])
 
 -- ---- a run of the table, made on the image of a state
 
@@ -69,81 +56,19 @@ module _ (mk att : ℕ) (x : State) (rs : List Run) where
   secret-run s =
       run-copy rs (imageOf mk att x) secretAt registerWords (words48 s) (length48 s) ∙ ap (apply (storesIn rs)) (sets-secret mk att x s)
 
-  register-run : Counted x → (i : ℕ) (v : List ℕ) → i < registerCount
+  register-run : Counted (x .chain) → (i : ℕ) (v : List ℕ) → i < registerCount
       → apply (storesIn (copy (registerAt i) registerWords (words48 v) ∷ rs)) (imageOf mk att x) ≡ apply (storesIn rs) (imageOf mk att (withRegister x i v))
   register-run c i v h =
       run-copy rs (imageOf mk att x) (registerAt i) registerWords (words48 v) (length48 v) ∙ ap (apply (storesIn rs)) (sets-register mk att x c i v h)
 
-  node-run : Counted x → (i : ℕ) (n : Node) → i < nodeCount
+  node-run : Counted (x .chain) → (i : ℕ) (n : Node) → i < nodeCount
       → apply (storesIn (copy (nodeAt i) nodeWords (nodeRow n) ∷ rs)) (imageOf mk att x) ≡ apply (storesIn rs) (imageOf mk att (withNode x i (some n)))
   node-run c i n h =
       run-copy rs (imageOf mk att x) (nodeAt i) nodeWords (nodeRow n) (length-row (some n))
       ∙ ap (apply (storesIn rs))
       (ap (λ (k : ℕ). sets (imageOf mk att x) k (nodeRow n)) (sym (add-zero (nodeAt i)))
       ∙ sets-node mk att x c i 0 (nodeRow n) (some n) h (omega (arith, length-row (some n)))
-      (sets-whole (slotRow (getD (x .nodes) i none)) (nodeRow n) (length-row (getD (x .nodes) i none) ∙ sym (length-row (some n)))))
-
--- ---- parts of a node's row
-
--- words in the middle of a list
-middle : (p m q vs : List ℕ) (n : ℕ) → length p ≡ n → length m ≡ length vs → sets (p ++ (m ++ q)) n vs ≡ p ++ (vs ++ q)
-middle p m q vs n e f =
-    ap (λ (k : ℕ). sets (p ++ (m ++ q)) k vs) (sym (add-zero n))
-    ∙ sets-skip p (m ++ q) vs n 0 e
-    ∙ ap (λ (r : List ℕ). p ++ r) (sets-within m q vs 0 (omega arith) ∙ ap (λ (r : List ℕ). r ++ q) (sets-whole m vs f))
-
-store-retired : (n : Node) → sets (slotRow (some n)) handleAt (replicate handleWords retiredWord) ≡ slotRow (retired (some n))
-unfolding nodeRow
-store-retired n = go (n .handle) _ _ _
-  where
-    go : (h : Handle) (a b : ℕ) (r : List ℕ) → sets (a ∷ b ∷ (handleRow h ++ r)) handleAt (replicate handleWords retiredWord) ≡ a ∷ b ∷ (handleRow retiredHandle ++ r)
-    go defaultHandle a b r = refl
-    go retiredHandle a b r = refl
-
--- a node with its current and its cumulative measurement replaced
-abbrev withCurrent : List ℕ → Node → Node
-withCurrent v n = record { parent = n .parent; tag = n .tag; handle = n .handle; flags = n .flags; current = v; cumulative = n .cumulative; type = n .type; locality = n .locality }
-
-abbrev withCumulative : List ℕ → Node → Node
-withCumulative v n = record { parent = n .parent; tag = n .tag; handle = n .handle; flags = n .flags; current = n .current; cumulative = v; type = n .type; locality = n .locality }
-
--- the words before and after the two measurements
-front : Node → List ℕ
-front n = (1 + 2 ^ 16 * n .parent) ∷ n .tag ∷ (handleRow (n .handle) ++ (n .flags ∷ []))
-
-back : Node → List ℕ
-back n = n .type ∷ n .locality ∷ []
-
-length-front : (n : Node) → length (front n) ≡ currentAt
-unfolding front
-length-front n = go (n .handle)
-  where
-    go : (h : Handle) → suc (suc (length (handleRow h ++ (n .flags ∷ [])))) ≡ currentAt
-    go defaultHandle = refl
-    go retiredHandle = refl
-
-row-parts : (n : Node) → nodeRow n ≡ front n ++ (words48 (n .current) ++ (words48 (n .cumulative) ++ back n))
-unfolding nodeRow front back
-row-parts n = ap (λ (r : List ℕ). (1 + 2 ^ 16 * n .parent) ∷ n .tag ∷ r) (sym (append-assoc (handleRow (n .handle)) (n .flags ∷ []) _))
-
-store-current : (n : Node) (v : List ℕ) → sets (slotRow (some n)) currentAt (words48 v) ≡ slotRow (some (withCurrent v n))
-unfolding front back
-store-current n v =
-    ap (λ (r : List ℕ). sets r currentAt (words48 v)) (row-parts n)
-    ∙ middle (front n) (words48 (n .current)) (words48 (n .cumulative) ++ back n) (words48 v) currentAt (length-front n) (length48 (n .current) ∙ sym (length48 v))
-    ∙ sym (row-parts (withCurrent v n))
-
-store-cumulative : (n : Node) (v : List ℕ) → sets (slotRow (some n)) cumulativeAt (words48 v) ≡ slotRow (some (withCumulative v n))
-unfolding front back
-store-cumulative n v =
-    ap (λ (r : List ℕ). sets r cumulativeAt (words48 v)) (row-parts n ∙ sym (append-assoc (front n) c (words48 (n .cumulative) ++ back n)))
-    ∙ middle (front n ++ c) (words48 (n .cumulative)) (back n) (words48 v) cumulativeAt
-    (length-append (front n) c ∙ omega (arith, length-front n, length48 (n .current))) (length48 (n .cumulative) ∙ sym (length48 v))
-    ∙ append-assoc (front n) c (words48 v ++ back n)
-    ∙ sym (row-parts (withCumulative v n))
-  where
-    c : List ℕ
-    c = words48 (n .current)
+      (sets-whole (placeRow (getD (x .chain .nodes) i none)) (nodeRow n) (length-row (getD (x .chain .nodes) i none) ∙ sym (length-row (some n)))))
 
 -- ---- a disabling
 
@@ -151,10 +76,14 @@ zero-words : words48 (zeros 48) ≡ zeros registerWords
 unfolding wordsAt tab zeros
 zero-words = refl
 
-abbrev disabled : State → State
+abbrev pub disabled : State → State
 disabled x = withSecret x (zeros 48)
 
-run-off : (att : ℕ) (x : State) → apply (storesIn disablingRuns) (imageOf 1 att x) ≡ imageOf 1 0 (disabled x)
+unfoldable pub offPlan : List Put
+offPlan = storesIn disablingRuns
+
+pub run-off : (att : ℕ) (x : State) → apply offPlan (imageOf 1 att x) ≡ imageOf 1 0 (disabled x)
+unfolding offPlan
 run-off att x =
     mark-run 1 att x (drop 1 disablingRuns) 0
     ∙ attestation-run 0 att x (drop 2 disablingRuns) 0
@@ -163,25 +92,14 @@ run-off att x =
     ∙ ap (apply (storesIn (drop 3 disablingRuns))) (sets-secret 0 0 x (zeros 48))
     ∙ mark-run 0 0 (disabled x) [] 1
 
-pub run-command : (att : ℕ) (x : State) → apply (planAt (imageOf 1 att x) disableCommand) (imageOf 1 att x) ≡ imageOf 1 0 (next x disableCommand)
-unfolding planAt plan runsOf workAt plainWork next
-run-command att x = run-off att x
-
-pub run-boot : (att : ℕ) (x : State) → apply (planAt (imageOf 1 att x) disablingBoot) (imageOf 1 att x) ≡ imageOf 1 0 (next x disablingBoot)
-unfolding planAt plan runsOf workAt plainWork next
-run-boot att x = run-off att x
-
 -- ---- a disabling on any image: at its end the image is shut, and no store of it opens a shut image
 
-unfoldable pub offPlan : List Put
-offPlan = storesIn disablingRuns
-
 pub command-plan : (l : List ℕ) → planAt l disableCommand ≡ offPlan
-unfolding planAt plan runsOf workAt plainWork offPlan
+unfolding planAt plan runsOf workAt workWith offPlan
 command-plan l = refl
 
 pub boot-plan : (l : List ℕ) → planAt l disablingBoot ≡ offPlan
-unfolding planAt plan runsOf workAt plainWork offPlan
+unfolding planAt plan runsOf workAt workWith offPlan
 boot-plan l = refl
 
 sets-before : (l : List ℕ) (a : ℕ) (vs : List ℕ) (i : ℕ) → i < a → getD (sets l a vs) i 0 ≡ getD l i 0
@@ -278,196 +196,176 @@ shut-store k l h s = every-at Quiet offPlan (every-stores Quiet disablingRuns qu
 
 -- ---- a stash
 
-pub counted : (x : State) → Good x → Counted x
-counted x g = record { registers = good-shape x g .registers; nodes = good-shape x g .nodes }
+pub counted : (x : Chain) → Good x → Counted x
+counted x g = record { registers = g .shape .registers; nodes = g .shape .nodes }
 
-free-none : (ns : List (Option Node)) → getD ns (find isFree ns) none ≡ none
-free-none [] = refl
-free-none (none ∷ ns) = refl
-free-none (some n ∷ ns) = free-none ns
+module _ (att : ℕ) (x : State) (g : Good (x .chain)) (m : Measurement) where
+  holder : ℕ
+  holder = nodeWith nodeCount (treeAt (x .chain)) defaultWords
 
-module _ (att : ℕ) (x : State) (g : Good x) where
-  stashed : ℕ → List ℕ → ℕ → List Run
-  stashed ty d c =
-      stashRuns (record { node = find isFree (x .nodes); holder = find isHolder (x .nodes) })
-      (words48 (extended (getD (x .registers) stashRegister []) d))
-      (nodeRow (childNode (find isHolder (x .nodes)) ty d c))
+  free : ℕ
+  free = lowestFree nodeCount (treeAt (x .chain))
 
-  stash-plan : (ty : ℕ) (d : List ℕ) (svn c : ℕ) → planAt (imageOf 1 att x) (stash ty d svn c) ≡ storesIn (stashed ty d c)
-  unfolding planAt plan runsOf workAt stashWork stashed
-  stash-plan ty d svn c =
-      let f = free-read 1 att x (good-shape x g) in
-      let h = holder-read 1 att x g in
-      let r = register-read 1 att x stashRegister (good-shape x g) (lit< tt) in
-      λ i. storesIn (stashRuns (record { node = f i; holder = h i }) (words48 (extended (r i) d)) (nodeRow (childNode (h i) ty d c)))
+  register : List ℕ
+  register = extended (getD (x .chain .registers) stashRegister []) (m .digest)
 
-  -- the free place is not the holder's
-  other : find isHolder (x .nodes) ≡ find isFree (x .nodes) → ⊥
-  other e =
-      let s : getD (x .nodes) (find isFree (x .nodes)) none ≡ some (holder-slot x g .0) =
-      ap (λ (i : ℕ). getD (x .nodes) i none) (sym e) ∙ holder-slot x g .1 in
-      let z : _≡_ {A = ℕ} 0 1 = cc (free-none (x .nodes)) in
-      omega arith
+  runs : List Run
+  runs = stashRuns (record { node = free; holder = holder }) (words48 register) (nodeRow (childNode holder m))
 
-  pub run-stash : (ty : ℕ) (d : List ℕ) (svn c : ℕ) → find isFree (x .nodes) < nodeCount
-      → apply (planAt (imageOf 1 att x) (stash ty d svn c)) (imageOf 1 att x) ≡ imageOf 1 att (next x (stash ty d svn c))
-  unfolding next stashed
-  run-stash ty d svn c room =
-      ap (λ (p : List Put). apply p (imageOf 1 att x)) (stash-plan ty d svn c)
+  stash-plan : planAt (imageOf 1 att x) (stash m) ≡ storesIn runs
+  unfolding planAt plan runsOf workAt workWith runs register holder free
+  stash-plan =
+      let t = good-tree 1 att x g in
+      let r = register-read 1 att x (g .shape) stashRegister (lit< tt) in
+      λ i. storesIn
+      (stashRuns (record { node = lowestFree nodeCount (t i); holder = nodeWith nodeCount (t i) defaultWords }) (words48 (extended (r i) (m .digest)))
+      (nodeRow (childNode (nodeWith nodeCount (t i) defaultWords) m)))
+
+  pub run-stash : lowestFree nodeCount (treeAt (x .chain)) < nodeCount → apply (planAt (imageOf 1 att x) (stash m)) (imageOf 1 att x) ≡ imageOf 1 att (next x (stash m))
+  unfolding nextChain runs register holder free
+  run-stash room =
+      ap (λ (p : List Put). apply p (imageOf 1 att x)) stash-plan
       ∙ mark-run 1 att x (drop 1 runs) 0
-      ∙ register-run 0 att x (drop 2 runs) (counted x g) stashRegister register (lit< tt)
+      ∙ register-run 0 att x (drop 2 runs) (counted (x .chain) g) stashRegister register (lit< tt)
       ∙ node-run 0 att x1 (drop 3 runs) c1 free child room
       ∙ run-fill (drop 4 runs) (imageOf 0 att x2) (nodeAt holder + handleAt) handleWords retiredWord
       ∙ ap (apply (storesIn (drop 4 runs)))
-      (sets-node 0 att x2 c2 holder handleAt (replicate handleWords retiredWord) (retired (getD (x .nodes) holder none)) (holder-below x g) (lit≤ tt) handle)
-      ∙ mark-run 0 att (withNode x2 holder (retired (getD (x .nodes) holder none))) [] 1
+      (sets-node 0 att x2 c2 holder handleAt (replicate handleWords retiredWord) old (holder-below (x .chain) g) (lit≤ tt) handle)
+      ∙ mark-run 0 att (withNode x2 holder old) [] 1
     where
-      runs : List Run
-      runs = stashed ty d c
-
-      holder : ℕ
-      holder = find isHolder (x .nodes)
-
-      free : ℕ
-      free = find isFree (x .nodes)
-
-      register : List ℕ
-      register = extended (getD (x .registers) stashRegister []) d
-
       child : Node
-      child = childNode holder ty d c
+      child = childNode holder m
+
+      old : Option Node
+      old = changed (withHandle retiredHandle) (getD (x .chain .nodes) holder none)
 
       x1 : State
       x1 = withRegister x stashRegister register
 
-      c1 : Counted x1
-      c1 = counted-register x stashRegister register (counted x g)
+      c1 : Counted (x1 .chain)
+      c1 = counted-register (x .chain) stashRegister register (counted (x .chain) g)
 
       x2 : State
       x2 = withNode x1 free (some child)
 
-      c2 : Counted x2
-      c2 = counted-node x1 free (some child) c1
+      c2 : Counted (x2 .chain)
+      c2 = counted-node (x1 .chain) free (some child) c1
 
-      handle : sets (slotRow (getD (x2 .nodes) holder none)) handleAt (replicate handleWords retiredWord) ≡ slotRow (retired (getD (x .nodes) holder none))
+      n : Node
+      n = holder-node (x .chain) g .0
+
+      handle : sets (placeRow (getD (x2 .chain .nodes) holder none)) handleAt (replicate handleWords retiredWord) ≡ placeRow old
       handle =
-          ap (λ (s : Option Node). sets (slotRow s) handleAt (replicate handleWords retiredWord))
-          (getD-set-other (x .nodes) free holder (some child) none (λ (q : holder ≡ free). other q) ∙ holder-slot x g .1)
-          ∙ store-retired (holder-slot x g .0)
-          ∙ ap (λ (s : Option Node). slotRow (retired s)) (sym (holder-slot x g .1))
+          ap (λ (s : Option Node). sets (placeRow s) handleAt (replicate handleWords retiredWord))
+          (getD-set-other (x .chain .nodes) free holder (some child) none (holder-apart (x .chain) g room) ∙ holder-node (x .chain) g .1)
+          ∙ ap (sets (nodeRow n) handleAt) (sym retired-row)
+          ∙ store-handle n retiredHandle
+          ∙ ap (λ (s : Option Node). placeRow (changed (withHandle retiredHandle) s)) (sym (holder-node (x .chain) g .1))
 
 -- ---- an update
 
--- the words of a prepared root, at the two places
-root-current : (u v : List ℕ) (j : ℕ) → j < registerWords → getD (rootValues u v) (currentAt + j) 0 ≡ getD (words48 u) j 0
-root-current u v j h =
-    ap (λ (n : ℕ). getD (rootValues u v) n 0) (sym (ap (λ (n : ℕ). n + j) (length-zeros currentAt)))
-    ∙ getD-append-add (zeros currentAt) (words48 u ++ (words48 v ++ zeros (nodeWords - typeAt))) j 0
-    ∙ List·getD-append (words48 u) (words48 v ++ zeros (nodeWords - typeAt)) 0 j (omega (arith, length48 u))
+module _ (att : ℕ) (x : State) (g : Good (x .chain)) (b : BootInputs) where
+  root : ℕ
+  root = rootIn nodeCount (treeAt (x .chain))
 
-root-cumulative : (u v : List ℕ) (j : ℕ) → j < registerWords → getD (rootValues u v) (cumulativeAt + j) 0 ≡ getD (words48 v) j 0
-root-cumulative u v j h =
-    ap (λ (n : ℕ). getD (rootValues u v) n 0) place
-    ∙ getD-append-add (zeros currentAt) (words48 u ++ (words48 v ++ zeros (nodeWords - typeAt))) (length (words48 u) + j) 0
-    ∙ getD-append-add (words48 u) (words48 v ++ zeros (nodeWords - typeAt)) j 0
-    ∙ List·getD-append (words48 v) (zeros (nodeWords - typeAt)) 0 j (omega (arith, length48 v))
-  where
-    place : cumulativeAt + j ≡ length (zeros currentAt) + (length (words48 u) + j)
-    place = omega (arith, length-zeros currentAt, length48 u)
+  rootNow : Node
+  rootNow = root-node (x .chain) g .0
 
-module _ (att : ℕ) (x : State) (g : Good x) where
-  updated : List ℕ → List ℕ → List Run
-  updated d s =
-      let root = find isRootNode (x .nodes) in
-      let journey = extended (getD (x .registers) journeyRegister []) d in
-      updateRuns root (words48 (measured d)) (words48 journey) (rootValues journey (extended (root-slot x g .0 .cumulative) journey)) (words48 s)
+  journey : List ℕ
+  journey = extended (getD (x .chain .registers) journeyRegister []) (b .digest)
 
-  update-plan : (d s : List ℕ) → planAt (imageOf 1 att x) (update d s) ≡ storesIn (updated d s)
-  unfolding planAt plan runsOf workAt updateWork updated
-  update-plan d s =
-      let t = root-read 1 att x g in
-      let r = register-read 1 att x journeyRegister (good-shape x g) (lit< tt) in
-      let c = ap (λ (i : ℕ). bytes48 (cumulativeIn (imageOf 1 att x) i)) t ∙ cumulative-read 1 att x (root-slot x g .0) g (root-slot x g .1) in
-      λ i.
-      storesIn
-      (updateRuns (t i) (words48 (measured d)) (words48 (extended (r i) d)) (rootValues (extended (r i) d) (extended (c i) (extended (r i) d))) (words48 s))
+  cumulative : List ℕ
+  cumulative = extended (rootNow .cumulative) journey
 
-  pub run-update : (d s : List ℕ) → apply (planAt (imageOf 1 att x) (update d s)) (imageOf 1 att x) ≡ imageOf 1 att (next x (update d s))
-  unfolding next updated
-  run-update d s =
-      ap (λ (p : List Put). apply p (imageOf 1 att x)) (update-plan d s)
-      ∙ mark-run 1 att x (drop 1 runs) 0
-      ∙ register-run 0 att x (drop 2 runs) (counted x g) currentRegister (measured d) (lit< tt)
-      ∙ register-run 0 att x1 (drop 3 runs) c1 journeyRegister journey (lit< tt)
-      ∙ secret-run 0 att x2 (drop 4 runs) s
-      ∙ run-part (drop 5 runs) (imageOf 0 att x3) (nodeAt root + currentAt) registerWords values currentAt (words48 journey) (length48 journey)
-      (root-current journey cumulative)
-      ∙ ap (apply (storesIn (drop 5 runs)))
-      (sets-node 0 att x3 c3 root currentAt (words48 journey) (some half) (root-below x g) (omega (arith, length48 journey)) current-row)
-      ∙ run-part (drop 6 runs) (imageOf 0 att x4) (nodeAt root + cumulativeAt) registerWords values cumulativeAt (words48 cumulative) (length48 cumulative)
-      (root-cumulative journey cumulative)
-      ∙ ap (apply (storesIn (drop 6 runs)))
-      (sets-node 0 att x4 c4 root cumulativeAt (words48 cumulative) (some whole) (root-below x g) (omega (arith, length48 cumulative)) cumulative-row)
-      ∙ mark-run 0 att (withNode x4 root (some whole)) [] 1
-      ∙ ap (λ (ns : List (Option Node)). imageOf 1 att (record { secret = s; registers = x2 .registers; nodes = ns }))
-      (set-set (x .nodes) root (some half) (some whole) ∙ ap (λ (r : Option Node). set (x .nodes) root (renewed journey r)) (sym slot))
+  updateRow : List Run
+  updateRow = updateRuns root (words48 (measured (b .digest))) (words48 journey) (measurementsRow journey cumulative) (words48 (b .secret))
+
+  update-plan : planAt (imageOf 1 att x) (update b) ≡ storesIn updateRow
+  unfolding planAt plan runsOf workAt workWith updateRow cumulative journey root rootNow
+  update-plan =
+      let t = ap (rootIn nodeCount) (good-tree 1 att x g) in
+      let r = register-read 1 att x (g .shape) journeyRegister (lit< tt) in
+      let c = ap (λ (i : ℕ). bytes48 (cumulativeIn (imageOf 1 att x) i)) t ∙ cumulative-read 1 att x g root rootNow (root-node (x .chain) g .1) (root-below (x .chain) g) in
+      λ i. storesIn
+      (updateRuns (t i) (words48 (measured (b .digest))) (words48 (extended (r i) (b .digest)))
+      (measurementsRow (extended (r i) (b .digest)) (extended (c i) (extended (r i) (b .digest)))) (words48 (b .secret)))
+
+  -- the prepared words, at the two places
+  current-words : (j : ℕ) → j < registerWords → getD (measurementsRow journey cumulative) (currentAt + j) 0 ≡ getD (words48 journey) j 0
+  current-words j h =
+      raw-current 0 0 0 0 (words48 journey) (words48 cumulative) (length48 journey) (length48 cumulative) (currentAt + j) (omega arith) (omega arith)
+      ∙ ap (λ (i : ℕ). getD (words48 journey) i 0) (back j)
     where
-      runs : List Run
-      runs = updated d s
+      back : (j : ℕ) → currentAt + j - currentAt ≡ j
+      back j = omega arith
 
-      root : ℕ
-      root = find isRootNode (x .nodes)
+  cumulative-words : (j : ℕ) → j < registerWords → getD (measurementsRow journey cumulative) (cumulativeAt + j) 0 ≡ getD (words48 cumulative) j 0
+  cumulative-words j h =
+      raw-cumulative 0 0 0 0 (words48 journey) (words48 cumulative) (length48 journey) (length48 cumulative) (cumulativeAt + j) (omega arith) (omega arith)
+      ∙ ap (λ (i : ℕ). getD (words48 cumulative) i 0) (back j)
+    where
+      back : (j : ℕ) → cumulativeAt + j - cumulativeAt ≡ j
+      back j = omega arith
 
-      n : Node
-      n = root-slot x g .0
-
-      slot : getD (x .nodes) root none ≡ some n
-      slot = root-slot x g .1
-
-      journey : List ℕ
-      journey = extended (getD (x .registers) journeyRegister []) d
-
-      cumulative : List ℕ
-      cumulative = extended (n .cumulative) journey
+  pub run-update : apply (planAt (imageOf 1 att x) (update b)) (imageOf 1 att x) ≡ imageOf 1 att (next x (update b))
+  unfolding nextChain updateRow cumulative journey root rootNow
+  run-update =
+      ap (λ (p : List Put). apply p (imageOf 1 att x)) update-plan
+      ∙ mark-run 1 att x (drop 1 updateRow) 0
+      ∙ register-run 0 att x (drop 2 updateRow) (counted (x .chain) g) currentRegister (measured (b .digest)) (lit< tt)
+      ∙ register-run 0 att x1 (drop 3 updateRow) c1 journeyRegister journey (lit< tt)
+      ∙ secret-run 0 att x2 (drop 4 updateRow) (b .secret)
+      ∙ run-part (drop 5 updateRow) (imageOf 0 att x3) (nodeAt root + currentAt) registerWords values currentAt (words48 journey) (length48 journey) current-words
+      ∙ ap (apply (storesIn (drop 5 updateRow)))
+      (sets-node 0 att x3 c3 root currentAt (words48 journey) (some half) (root-below (x .chain) g) (omega (arith, length48 journey)) current-row)
+      ∙ run-part (drop 6 updateRow) (imageOf 0 att x4) (nodeAt root + cumulativeAt) registerWords values cumulativeAt (words48 cumulative) (length48 cumulative) cumulative-words
+      ∙ ap (apply (storesIn (drop 6 updateRow)))
+      (sets-node 0 att x4 c4 root cumulativeAt (words48 cumulative) (some whole) (root-below (x .chain) g) (omega (arith, length48 cumulative)) cumulative-row)
+      ∙ mark-run 0 att (withNode x4 root (some whole)) [] 1
+      ∙ ap (λ (ns : List (Option Node)). imageOf 1 att (record { secret = b .secret; chain = record { registers = x2 .chain .registers; nodes = ns } }))
+      (set-set (x .chain .nodes) root (some half) (some whole) ∙ ap (λ (r : Option Node). set (x .chain .nodes) root (changed (renewed journey) r)) (sym found))
+    where
+      found : getD (x .chain .nodes) root none ≡ some rootNow
+      found = root-node (x .chain) g .1
 
       values : List ℕ
-      values = rootValues journey cumulative
+      values = measurementsRow journey cumulative
 
       -- the root with the new current measurement, and with both
       half : Node
-      half = withCurrent journey n
+      half = withCurrent journey rootNow
 
       whole : Node
       whole = withCumulative cumulative half
 
       x1 : State
-      x1 = withRegister x currentRegister (measured d)
+      x1 = withRegister x currentRegister (measured (b .digest))
 
-      c1 : Counted x1
-      c1 = counted-register x currentRegister (measured d) (counted x g)
+      c1 : Counted (x1 .chain)
+      c1 = counted-register (x .chain) currentRegister (measured (b .digest)) (counted (x .chain) g)
 
       x2 : State
       x2 = withRegister x1 journeyRegister journey
 
       x3 : State
-      x3 = withSecret x2 s
+      x3 = withSecret x2 (b .secret)
 
-      c3 : Counted x3
-      c3 = counted-secret x2 s (counted-register x1 journeyRegister journey c1)
+      c3 : Counted (x3 .chain)
+      c3 = counted-register (x1 .chain) journeyRegister journey c1
 
       x4 : State
       x4 = withNode x3 root (some half)
 
-      c4 : Counted x4
-      c4 = counted-node x3 root (some half) c3
+      c4 : Counted (x4 .chain)
+      c4 = counted-node (x3 .chain) root (some half) c3
 
-      current-row : sets (slotRow (getD (x .nodes) root none)) currentAt (words48 journey) ≡ slotRow (some half)
-      current-row = ap (λ (r : Option Node). sets (slotRow r) currentAt (words48 journey)) slot ∙ store-current n journey
+      current-row : sets (placeRow (getD (x .chain .nodes) root none)) currentAt (words48 journey) ≡ placeRow (some half)
+      current-row = ap (λ (r : Option Node). sets (placeRow r) currentAt (words48 journey)) found ∙ store-current rootNow journey
 
-      cumulative-row : sets (slotRow (getD (set (x .nodes) root (some half)) root none)) cumulativeAt (words48 cumulative) ≡ slotRow (some whole)
+      cumulative-row : sets (placeRow (getD (set (x .chain .nodes) root (some half)) root none)) cumulativeAt (words48 cumulative) ≡ placeRow (some whole)
       cumulative-row =
-          ap (λ (r : Option Node). sets (slotRow r) cumulativeAt (words48 cumulative))
-          (getD-set-same (x .nodes) root (some half) none (omega (arith, root-below x g, good-shape x g .nodes)))
+          ap (λ (r : Option Node). sets (placeRow r) cumulativeAt (words48 cumulative))
+          (getD-set-same (x .chain .nodes) root (some half) none (omega (arith, root-below (x .chain) g, g .shape .nodes)))
           ∙ store-cumulative half cumulative
 
 -- ---- a cold boot, on any image of the right length: each run goes on where the one before ended
@@ -516,34 +414,34 @@ zeros-append : (m n : ℕ) → zeros m ++ zeros n ≡ zeros (m + n)
 unfolding zeros
 zeros-append m n = replicate-append-replicate m n 0
 
-module _ (y : State) (d s : List ℕ) where
+module _ (y : State) (b : BootInputs) where
   m : List ℕ
-  m = words48 (measured d)
+  m = words48 (measured (b .digest))
 
-  root : List ℕ
-  root = nodeRow (rootNode (measured d))
+  rootWords : List ℕ
+  rootWords = nodeRow (rootNode (measured (b .digest)))
 
-  -- the registers past PCR3, and the nodes past the root
+  -- the registers past PCR3, and the nodes past the rootWords
   restRegisters : ℕ
   restRegisters = (registerCount - (journeyRegister + 1)) * registerWords
 
   restNodes : ℕ
   restNodes = (nodeCount - 1) * nodeWords
 
-  cold-registers : registerRows (next y (coldBoot d s)) ≡ zeros (currentRegister * registerWords) ++ (m ++ (m ++ zeros restRegisters))
-  unfolding next m restRegisters
+  cold-registers : registerRows (nextChain (y .chain) (coldBoot b)) ≡ zeros (currentRegister * registerWords) ++ (m ++ (m ++ zeros restRegisters))
+  unfolding nextChain m restRegisters
   cold-registers =
       ap (λ (r : List ℕ). words48 (zeros 48) ++ (words48 (zeros 48) ++ (m ++ (m ++ r)))) (flat-zeros words48 (zeros 48) registerWords zero-words (registerCount - (journeyRegister + 1)))
       ∙ ap (λ (z : List ℕ). z ++ (z ++ (m ++ (m ++ zeros restRegisters)))) zero-words
       ∙ sym (append-assoc (zeros registerWords) (zeros registerWords) (m ++ (m ++ zeros restRegisters)))
       ∙ ap (λ (z : List ℕ). z ++ (m ++ (m ++ zeros restRegisters))) (zeros-append registerWords registerWords)
 
-  cold-nodes : nodeRows (next y (coldBoot d s)) ≡ root ++ zeros restNodes
-  unfolding next root restNodes
-  cold-nodes = ap (λ (r : List ℕ). nodeRow (rootNode (measured d)) ++ r) (flat-zeros slotRow none nodeWords refl (nodeCount - 1))
+  cold-nodes : nodeRows (nextChain (y .chain) (coldBoot b)) ≡ rootWords ++ zeros restNodes
+  unfolding nextChain rootWords restNodes
+  cold-nodes = ap (λ (r : List ℕ). nodeRow (rootNode (measured (b .digest))) ++ r) (flat-zeros placeRow none nodeWords refl (nodeCount - 1))
 
-  regroup : (p z w a u v b r c : List ℕ) → p ++ z ++ w ++ a ++ u ++ v ++ b ++ r ++ c ≡ p ++ (z ++ (w ++ (a ++ (u ++ (v ++ b)) ++ (r ++ c))))
-  regroup p z w a u v b r c = simp append-assoc
+  regroup : (p z w a u v o r c : List ℕ) → p ++ z ++ w ++ a ++ u ++ v ++ o ++ r ++ c ≡ p ++ (z ++ (w ++ (a ++ (u ++ (v ++ o)) ++ (r ++ c))))
+  regroup p z w a u v o r c = simp append-assoc
 
   two-zeros : zeros 2 ≡ 0 ∷ 0 ∷ []
   unfolding zeros
@@ -551,39 +449,35 @@ module _ (y : State) (d s : List ℕ) where
 
   -- all words in a row
   cold-words : List ℕ
-  cold-words = (0 ∷ 1 ∷ []) ++ zeros 2 ++ words48 s ++ zeros (currentRegister * registerWords) ++ m ++ m ++ zeros restRegisters ++ root ++ zeros restNodes
+  cold-words = (0 ∷ 1 ∷ []) ++ zeros 2 ++ words48 (b .secret) ++ zeros (currentRegister * registerWords) ++ m ++ m ++ zeros restRegisters ++ rootWords ++ zeros restNodes
 
-  cold-image : cold-words ≡ imageOf 0 1 (next y (coldBoot d s))
+  cold-image : cold-words ≡ imageOf 0 1 (next y (coldBoot b))
   unfolding imageOf cold-words
   cold-image =
-      regroup (0 ∷ 1 ∷ []) (zeros 2) (words48 s) (zeros (currentRegister * registerWords)) m m (zeros restRegisters) root (zeros restNodes)
-      ∙ (λ i. 0 ∷ 1 ∷ (two-zeros i ++ (words48 s ++ (sym cold-registers i ++ sym cold-nodes i))))
-      ∙ ap (λ (t : List ℕ). 0 ∷ 1 ∷ 0 ∷ 0 ∷ (words48 t ++ (registerRows (next y (coldBoot d s)) ++ nodeRows (next y (coldBoot d s))))) last
-    where
-      last : s ≡ next y (coldBoot d s) .secret
-      last = unfold next in refl
+      regroup (0 ∷ 1 ∷ []) (zeros 2) (words48 (b .secret)) (zeros (currentRegister * registerWords)) m m (zeros restRegisters) rootWords (zeros restNodes)
+      ∙ (λ i. 0 ∷ 1 ∷ (two-zeros i ++ (words48 (b .secret) ++ (sym cold-registers i ++ sym cold-nodes i))))
 
-  cold-reached : (l : List ℕ) → Reached l (storesIn (coldRuns m m root (words48 s))) (one markAt 1 ∷ []) cold-words imageWords
-  unfolding m root restRegisters restNodes cold-words
+  cold-reached : (l : List ℕ) → Reached l (storesIn (coldRuns m m rootWords (words48 (b .secret)))) (one markAt 1 ∷ []) cold-words imageWords
+  unfolding m rootWords restRegisters restNodes cold-words
   cold-reached l =
       past-zeros restNodes
-      (past-copy nodeWords root (length-row (some (rootNode (measured d))))
+      (past-copy nodeWords rootWords (length-row (some (rootNode (measured (b .digest)))))
       (past-zeros restRegisters
-      (past-copy registerWords m (length48 (measured d))
-      (past-copy registerWords m (length48 (measured d))
+      (past-copy registerWords m (length48 (measured (b .digest)))
+      (past-copy registerWords m (length48 (measured (b .digest)))
       (past-zeros (currentRegister * registerWords)
-      (past-copy registerWords (words48 s) (length48 s)
+      (past-copy registerWords (words48 (b .secret)) (length48 (b .secret))
       (past-zeros 2 start)))))))
     where
       runs : List Run
-      runs = coldRuns m m root (words48 s)
+      runs = coldRuns m m rootWords (words48 (b .secret))
 
       start : Reached l (storesIn runs) (drop 2 runs) (0 ∷ 1 ∷ []) 2
       start = record { same = run-one (drop 1 runs) l markAt 0 ∙ run-one (drop 2 runs) (set l markAt 0) attestationAt 1; long = refl }
 
-  pub run-cold : (before l : List ℕ) → length l ≡ imageWords → apply (planAt before (coldBoot d s)) l ≡ imageOf 1 1 (next y (coldBoot d s))
-  unfolding planAt plan runsOf workAt coldWork m root
+  pub run-cold : (before l : List ℕ) → length l ≡ imageWords → apply (planAt before (coldBoot b)) l ≡ imageOf 1 1 (next y (coldBoot b))
+  unfolding planAt plan runsOf workAt workWith m rootWords
   run-cold before l e =
       cold-reached l .same
       ∙ ap (apply (storesIn (one markAt 1 ∷ []))) (sets-whole l cold-words (e ∙ sym (cold-reached l .long)) ∙ cold-image)
-      ∙ mark-run 0 1 (next y (coldBoot d s)) [] 1
+      ∙ mark-run 0 1 (next y (coldBoot b)) [] 1

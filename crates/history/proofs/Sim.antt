@@ -1,101 +1,109 @@
--- The machine and the ledger go together, call by call. Assumes nothing.
+-- The machine and the ledger go together, call by call: between works the image is Ground; in the middle of one it is the Ground's image at the opening
+-- with the first k stores made. Assumes nothing.
 use mathlib.Core.Path.{_≡_, refl, sym, ap, _∙_, subst}
-use Prim.Native.Nat.{ℕ, zero, suc, _-_, _≤_, _<_}
-use native.Mathlib.Nat.{zero-lt-suc, sub-zero}
-use native.Mathlib.Decide.{ℕ-discrete}
+use mathlib.Core.Logic.{_⊎_, inl, inr}
+use Prim.Native.Nat.{ℕ, zero, suc, _-_, _≤_, _<_, zero-le}
+use native.Mathlib.Nat.{zero-lt-suc, zero-add, sub-zero}
+use native.Mathlib.Decide.{ℕ-discrete, decLt}
 use native.Mathlib.Omega.{arith}
 use mathlib.Core.Bool.{Bool, true, false, cond, not, _&&_, _||_, or-false, or-true, and-false}
 use mathlib.Core.List.{List, [], _∷_, _++_}
 use mathlib.Core.Option.{Option, none, some}
 use lib.Dec.{eqb, ltb}
 use borrow.Author.Tests.{eq-eqb, ne-eqb, lt-ltb, le-ltb, le-leb}
-use lib.ListN.{length, getD, set, take}
-use lib.Seq.{take-all, take-append-seam}
+use lib.ListN.{length, getD, set, take, drop}
+use lib.Seq.{take-all, take-append-seam, paste}
 use Rattle.layout.specs.Sizes.{imageWords, markAt, answerMax}
 use Rattle.layout.specs.Words.{zeros}
+use Rattle.layout.specs.Refusals as number
 use Rattle.work.specs.Table.{put, runsOf, numberOf, indexOk, putOf}
-use Rattle.work.specs.Entries.{wellShaped, leftOf, moved, storeNumber, storeResult, storeImage}
+use Rattle.work.specs.Entries.{wellShaped, finished, leftOf, moved, storeResult, storeImage, answerNumber, answerResult, answerBuffer}
+use Rattle.work.specs.Made.{workWith}
 use Rattle.work.specs.declared.Put.{Put}
 use Rattle.work.specs.declared.Work.{Work}
 use Rattle.work.specs.declared.Stored.{Stored}
-use Rattle.opening.specs.Tasks.{Request, Task, noStores, keptBoot, disableCommand, disablingBoot, stash, update, coldBoot, Ruling, refused, accepted, firstRefusal, bootRules, updateTask}
-use Rattle.opening.specs.Works.{padded, workAt, plainWork, stashWork, updateWork, coldWork}
+use Rattle.work.specs.declared.Answered.{Answered}
+use Rattle.work.proofs.Plans.{apply, length-apply, plan, put-plan, one-more, mark-mid}
+use Rattle.work.proofs.After.{store-made, store-refused}
+use Rattle.opening.specs.Tasks.{Request, BootInputs, Task, Ruling, refused, accepted}
+use Rattle.opening.specs.Rules.{decide, requestRules, requestRuling, bootRules, bootRuling, updateTask}
+use Rattle.opening.specs.Works.{factsOf, workAt}
 use Rattle.opening.specs.Openings.{openedOf, bootedOf, viewIn, openRequest, intact, openUpdateBoot, outcomeOf, outcomeNumber}
-use Rattle.history.specs.Calls.{Call, request, updateBoot, store, powerCut, kindName, refusal, opened, booted, stored, Hand, Machine, Step, afterRequest, afterBoot, afterStore, step, run}
-use Rattle.history.specs.Ledger.{Ledger, storesOf, taskKind, viewOf, tears, letGo, ledgerRequest, ledgerBoot, bootRuling, ledgerStore, ledgerStep, ledgerRun}
-use Rattle.history.proofs.Plans.{apply, length-apply, plan, put-plan, one-more, mark-mid}
-use Rattle.history.proofs.Runs.{planAt, plan-answer, number-at, length-at}
-use Rattle.history.proofs.Ground.{Ground, broken, Fits, isBoot, FitsRuling, fits-first, ground-length, finish, ruling, rule-same, fits-rule, intact-same, fits-boot, calm, index-ok}
+use Rattle.history.specs.Calls.{Call, request, updateBoot, store, answer, powerCut, kindName, Result, refusal, opened, booted, stored, answered, Hand, Machine, Step, afterRequest, afterBoot, afterStore, answerTaken, step, run}
+use Rattle.history.specs.Ledger.{Chain, treeAt, stateOf, chainOf, Job, jobAt, Ledger, viewOf, tears, letGo, ledgerRequest, ledgerBoot, updateRuling, ledgerStore, ledgerAnswer, ledgerStep, ledgerRun}
+use Rattle.history.proofs.Runs.{planAt, plan-answer, length-at}
+use Rattle.history.proofs.Ground.{Ground, broken, Fits, storesAt, isBoot, FitsRuling, decided, ground-length, finish, ruling, rule-same, fits-rule, intact-same, fits-boot, calm, kind-same, index-ok}
 
--- ---- a work that an opening gave
+-- ---- a work in hand, beside the ledger's job, with k stores made
 
-pub record Prepared (w : Work) (t : Task) (a : List ℕ) : Type 0 where
-  pub kind : kindName (w .kind) ≡ taskKind t
-  pub position : w .position ≡ 0
-  pub long : w .«answer_len» ≡ length a
-  pub answer : take (w .«answer_len») (w .answer) ≡ a
-
--- the answer, taken from the array that it was padded to
-seam : (a : List ℕ) → take (length a) (padded a) ≡ a
-seam a = take-append-seam a (zeros (answerMax - length a))
-
-prepared : (l : List ℕ) (t : Task) (a : List ℕ) → Prepared (workAt l t a) t a
-unfolding workAt plainWork stashWork updateWork coldWork
-prepared l noStores a = record { kind = refl; position = refl; long = refl; answer = seam a }
-prepared l keptBoot a = record { kind = refl; position = refl; long = refl; answer = seam a }
-prepared l disableCommand a = record { kind = refl; position = refl; long = refl; answer = seam a }
-prepared l disablingBoot a = record { kind = refl; position = refl; long = refl; answer = seam a }
-prepared l (stash ty d svn c) a = record { kind = refl; position = refl; long = refl; answer = seam a }
-prepared l (update d s) a = record { kind = refl; position = refl; long = refl; answer = seam a }
-prepared l (coldBoot d s) a = record { kind = refl; position = refl; long = refl; answer = seam a }
-
--- a work in hand: opened for the task at the image `base`, with k stores made
-pub record Underway (w : Work) (tk : Task) (base : List ℕ) (k : ℕ) : Type 0 where
+pub record Carried (w : Work) (j : Job) (k : ℕ) : Type 0 where
   pub index : indexOk (w .kind) ≡ true
   pub short : w .«answer_len» ≤ answerMax
-  pub number : numberOf (w .kind) ≡ storesOf tk
-  pub stores : plan w ≡ planAt base tk
+  pub number : numberOf (w .kind) ≡ j .stores
   pub position : w .position ≡ k
+  pub long : w .«answer_len» ≡ length (j .answer)
+  pub answer : take (w .«answer_len») (w .answer) ≡ j .answer
 
-pub underway-start : (l : List ℕ) (tk : Task) (a : List ℕ) → indexOk (workAt l tk a .kind) ≡ true → length a ≤ answerMax → Underway (workAt l tk a) tk l 0
-underway-start l tk a i s =
-    record {
-      index = i;
-      short = omega (arith, prepared l tk a .long);
-      number = number-at l tk a;
-      stores = plan-answer l tk a;
-      position = prepared l tk a .position;
-    }
+pub carried-moved : {w : Work} {j : Job} {k : ℕ} → Carried w j k → Carried (moved w) j (suc k)
+carried-moved c =
+    record { index = c .index; short = c .short; number = c .number; position = omega (arith, c .position); long = c .long; answer = c .answer }
 
-pub underway-moved : {w : Work} {tk : Task} {base : List ℕ} {k : ℕ} → Underway w tk base k → Underway (moved w) tk base (suc k)
+module _ (w : Work) (j : Job) (k : ℕ) (c : Carried w j k) (h : k ≤ j .stores) where
+  shaped : wellShaped w ≡ true
+  unfolding wellShaped
+  shaped = rw (c .index, le-leb (w .«answer_len») answerMax (c .short), le-leb (w .position) (numberOf (w .kind)) (omega (arith, c .number, c .position)))
+
+  pub carried-left : leftOf w ≡ j .stores - k
+  unfolding leftOf
+  carried-left = rw shaped (omega (arith, c .number, c .position))
+
+  -- the answer that is taken
+  carried-early : k < j .stores → (b : List ℕ) → answerTaken (some (record { work = w; boot = true })) b ≡ answered number.storesLeft 0 b
+  unfolding answerResult answerBuffer answerNumber finished
+  carried-early l b = rw (shaped, ne-eqb (w .position) (numberOf (w .kind)) (λ e. omega (arith, c .number, c .position)))
+
+  carried-late : k ≡ j .stores → (b : List ℕ)
+      → answerTaken (some (record { work = w; boot = true })) b
+      ≡ cond (ltb (length b) (length (j .answer))) (answered number.shortBuffer 0 b) (answered 0 (length (j .answer)) (j .answer ++ drop (length (j .answer)) b))
+  unfolding answerResult answerBuffer answerNumber finished
+  carried-late e b =
+      rw (shaped, eq-eqb (w .position) (numberOf (w .kind)) (omega (arith, c .number, c .position)))
+      (ap (λ (n : ℕ). taken (ltb (length b) n)) (c .long) ∙ by-test (ltb (length b) (length (j .answer))))
+    where
+      taken : Bool → Result
+      taken x =
+          answered (cond x number.shortBuffer 0) (cond (eqb (cond x number.shortBuffer 0) 0) (w .«answer_len») 0)
+          (cond (eqb (cond x number.shortBuffer 0) 0) (paste b 0 (w .answer) (w .«answer_len»)) b)
+
+      by-test : (x : Bool) → taken x ≡ cond x (answered number.shortBuffer 0 b) (answered 0 (length (j .answer)) (j .answer ++ drop (length (j .answer)) b))
+      by-test true = refl
+      by-test false =
+          ap (λ (n : ℕ). answered 0 (w .«answer_len») (take (w .«answer_len») (w .answer) ++ drop n b)) (zero-add (w .«answer_len»))
+          ∙ (λ i. answered 0 (c .long i) (c .answer i ++ drop (c .long i) b))
+
+  pub carried-answer : (b : List ℕ) → answerTaken (some (record { work = w; boot = true })) b ≡ ledgerAnswer (some j) k b
+  carried-answer b = elim (decLt k (j .stores)) [
+    | yes l ↦ rw (lt-ltb k (j .stores) l) (carried-early l b)
+    | no g ↦ rw (le-ltb k (j .stores) (omega arith)) (carried-late (omega arith) b)
+  ]
+
+-- opened for the job's task at the image `base`
+pub record Underway (w : Work) (j : Job) (base : List ℕ) (k : ℕ) : Type 0 where
+  pub carried : Carried w j k
+  pub plans : plan w ≡ planAt base (j .task)
+  pub count : length (planAt base (j .task)) ≡ j .stores
+
+pub underway-moved : {w : Work} {j : Job} {base : List ℕ} {k : ℕ} → Underway w j base k → Underway (moved w) j base (suc k)
 unfolding plan runsOf
-underway-moved u = record { index = u .index; short = u .short; number = u .number; stores = u .stores; position = omega (arith, u .position) }
-
-pub underway-left : (w : Work) (tk : Task) (base : List ℕ) (k : ℕ) → Underway w tk base k → k ≤ storesOf tk → leftOf w ≡ storesOf tk - k
-unfolding leftOf wellShaped
-underway-left w tk base k u h =
-    rw (u .index, le-leb (w .«answer_len») answerMax (u .short), le-leb (w .position) (numberOf (w .kind)) (omega (arith, u .number, u .position)))
-    (omega (arith, u .number, u .position))
-
--- ---- one store of the machine
-
-pub store-made : (w : Work) (l : List ℕ) → length l ≡ imageWords → 0 < leftOf w
-    → (storeResult w l ≡ record { number = 0; work = moved w }) × (storeImage w l ≡ set l (putOf w .address) (putOf w .value))
-unfolding storeResult storeImage storeNumber
-store-made w l e h = (rw (e, lt-ltb 0 (leftOf w) h), rw (e, lt-ltb 0 (leftOf w) h))
-
-pub store-refused : (w : Work) (l : List ℕ) → length l ≡ imageWords → leftOf w ≡ 0
-    → (storeResult w l ≡ record { number = 9; work = w }) × (storeImage w l ≡ l)
-unfolding storeResult storeImage storeNumber
-store-refused w l e h = (rw (e, h), rw (e, h))
+underway-moved u = record { carried = carried-moved (u .carried); plans = u .plans; count = u .count }
 
 -- the next store of a work in hand
-pub next-image : (w : Work) (tk : Task) (base : List ℕ) (k : ℕ) → Underway w tk base k → k < storesOf tk
-    → set (apply (take k (planAt base tk)) base) (putOf w .address) (putOf w .value) ≡ apply (take (suc k) (planAt base tk)) base
-next-image w tk base k u h =
-    ap (λ (p : Put). set (apply (take k (planAt base tk)) base) (p .address) (p .value))
-    (put-plan w ∙ (λ i. getD (u .stores i) (u .position i) (put 0 0)))
-    ∙ one-more (planAt base tk) k base (omega (arith, length-at base tk))
+pub next-image : (w : Work) (j : Job) (base : List ℕ) (k : ℕ) → Underway w j base k → k < j .stores
+    → set (apply (take k (planAt base (j .task))) base) (putOf w .address) (putOf w .value) ≡ apply (take (suc k) (planAt base (j .task))) base
+next-image w j base k u h =
+    ap (λ (p : Put). set (apply (take k (planAt base (j .task))) base) (p .address) (p .value))
+    (put-plan w ∙ (λ i. getD (u .plans i) (u .carried .position i) (put 0 0)))
+    ∙ one-more (planAt base (j .task)) k base (omega (arith, u .count))
 
 -- ---- the invariant
 
@@ -104,15 +112,14 @@ abbrev pub flag : ℕ → Bool → Bool
 flag zero u = u
 flag (suc k) u = true
 
--- image and hand of the machine; history, task in hand, stores made, torn, unfinished of the ledger. Between works the image is Ground; in the middle of
--- one it is the Ground's image at the opening with the first k stores made
-pub data Inv : List ℕ → Option Hand → List Task → Option Task → ℕ → Bool → Bool → Type 0 where
+-- image and hand of the machine; history, job in hand, stores made, torn, unfinished of the ledger
+pub data Inv : List ℕ → Option Hand → List Task → Option Job → ℕ → Bool → Bool → Type 0 where
   empty : {l : List ℕ} {h : List Task} {k : ℕ} {t u : Bool} → Ground l h t u → Inv l none h none k t u
-  done : {l : List ℕ} {p : Hand} {h : List Task} {tk : Task} {k : ℕ} {t : Bool} → Ground l h t false
-      → k ≡ storesOf tk → leftOf (p .work) ≡ 0 → p .boot ≡ isBoot tk → Inv l (some p) h (some tk) k t false
-  going : {l : List ℕ} {p : Hand} {h : List Task} {tk : Task} {k : ℕ} {t u : Bool} (base : List ℕ) (v : Bool) → Ground base h t v → Fits h t v tk
-      → Underway (p .work) tk base k → k < storesOf tk → l ≡ apply (take k (planAt base tk)) base → u ≡ flag k v → p .boot ≡ isBoot tk
-      → Inv l (some p) h (some tk) k t u
+  done : {l : List ℕ} {p : Hand} {h : List Task} {j : Job} {k : ℕ} {t : Bool} → Ground l h t false
+      → k ≡ j .stores → Carried (p .work) j k → p .boot ≡ isBoot (j .task) → Inv l (some p) h (some j) k t false
+  going : {l : List ℕ} {p : Hand} {h : List Task} {j : Job} {k : ℕ} {t u : Bool} (base : List ℕ) (v : Bool) → Ground base h t v → Fits h t v (j .task)
+      → Underway (p .work) j base k → j .stores ≡ storesAt (stateOf h .chain) (j .task) → k < j .stores
+      → l ≡ apply (take k (planAt base (j .task))) base → u ≡ flag k v → p .boot ≡ isBoot (j .task) → Inv l (some p) h (some j) k t u
 
 abbrev pub Related : Machine → Ledger → Type 0
 Related m b = Inv (m .image) (m .hand) (b .history) (b .hand) (b .made) (b .torn) (b .unfinished)
@@ -126,66 +133,91 @@ pub record Together (m : Step Machine) (b : Step Ledger) : Type 0 where
 same-torn : {l : List ℕ} {h : List Task} {t u x : Bool} → x ≡ false → Ground l h t u → Ground l h (t || x) u
 same-torn {l} {h} {t} {u} {x} e g = subst (λ (b : Bool). Ground l h b u) (sym (ap (λ (b : Bool). t || b) e ∙ or-false t)) g
 
-no-tear : (tk : Task) (k : ℕ) → k ≡ storesOf tk → (ltb 0 k && ltb k (storesOf tk)) ≡ false
-no-tear tk k e = rw (le-ltb k (storesOf tk) (omega arith)) (and-false (ltb 0 k))
+no-tear : (n k : ℕ) → k ≡ n → (ltb 0 k && ltb k n) ≡ false
+no-tear n k e = rw (le-ltb k n (omega arith)) (and-false (ltb 0 k))
 
-middle-tears : (tk : Task) (k : ℕ) → suc k < storesOf tk → (ltb 0 (suc k) && ltb (suc k) (storesOf tk)) ≡ true
-middle-tears tk k h = rw (lt-ltb 0 (suc k) (zero-lt-suc k), lt-ltb (suc k) (storesOf tk) h)
+middle-tears : (n k : ℕ) → suc k < n → (ltb 0 (suc k) && ltb (suc k) n) ≡ true
+middle-tears n k h = rw (lt-ltb 0 (suc k) (zero-lt-suc k), lt-ltb (suc k) n h)
 
-middle-mark : (base : List ℕ) (tk : Task) (k : ℕ) → length base ≡ imageWords → 0 < k → k < storesOf tk → getD (apply (take k (planAt base tk)) base) markAt 0 ≡ 0
+middle-mark : (base : List ℕ) (tk : Task) (k : ℕ) → length base ≡ imageWords → 0 < k → k < length (planAt base tk) → getD (apply (take k (planAt base tk)) base) markAt 0 ≡ 0
 unfolding planAt
-middle-mark base tk k e p h = mark-mid (workAt base tk []) k base p (omega (arith, length-at base tk)) (omega arith)
+middle-mark base tk k e p h = mark-mid (workAt base tk []) k base p h (omega arith)
 
-pub release : {l : List ℕ} {w : Option Hand} {h : List Task} {d : Option Task} {k : ℕ} {t u : Bool} → Inv l w h d k t u → Ground l h (t || tears d k) u
+pub release : {l : List ℕ} {w : Option Hand} {h : List Task} {d : Option Job} {k : ℕ} {t u : Bool} → Inv l w h d k t u → Ground l h (t || tears d k) u
 release (empty g) = same-torn refl g
-release {k = k} (done {tk = tk} g e n b) = same-torn (no-tear tk k e) g
-release {h = h} {k = zero} {t = t} {u} (going {tk = tk} base v g f w p q r b) =
+release {k = k} (done {j = j} g e c b) = same-torn (no-tear (j .stores) k e) g
+release {h = h} {k = zero} {t = t} {u} (going {j = j} base v g f w n p q r b) =
     subst (λ (z : List ℕ). Ground z h (t || false) u) (sym q) (subst (λ (z : Bool). Ground base h (t || false) z) (sym r) (same-torn refl g))
-release {l} {h = h} {k = suc k} {t = t} {u} (going {tk = tk} base v g f w p q r b) =
-    subst (λ (z : Bool). Ground l h z u) (sym (ap (λ (z : Bool). t || z) (middle-tears tk k p) ∙ or-true t))
+release {l} {h = h} {k = suc k} {t = t} {u} (going {j = j} base v g f w n p q r b) =
+    subst (λ (z : Bool). Ground l h z u) (sym (ap (λ (z : Bool). t || z) (middle-tears (j .stores) k p) ∙ or-true t))
     (subst (λ (z : Bool). Ground l h true z) (sym r)
     (subst (λ (z : List ℕ). Ground z h true true) (sym q)
-    (broken (length-apply (take (suc k) (planAt base tk)) base ∙ ground-length g) (middle-mark base tk (suc k) (ground-length g) (zero-lt-suc k) p))))
+    (broken (length-apply (take (suc k) (planAt base (j .task))) base ∙ ground-length g)
+    (middle-mark base (j .task) (suc k) (ground-length g) (zero-lt-suc k) (omega (arith, w .count))))))
 
 -- ---- an opening
 
--- a task with no stores is only opened where nothing is unfinished
-rest : {l : List ℕ} {h : List Task} {t u : Bool} → Ground l h t u → (tk : Task) → Fits h t u tk → storesOf tk ≡ 0 → u ≡ false
-unfolding numberOf
-rest g noStores f e = f
-rest g keptBoot f e = calm g f
-rest g disableCommand f e = f
-rest g disablingBoot f e = absurd (omega arith)
-rest g (stash ty d svn c) f e = absurd (omega arith)
-rest g (update d s) f e = absurd (omega arith)
-rest g (coldBoot d s) f e = absurd f
+-- the answer, taken from the array that it was padded to
+seam : (a : List ℕ) → take (length a) (a ++ zeros (answerMax - length a)) ≡ a
+seam a = take-append-seam a (zeros (answerMax - length a))
 
 module _ {l : List ℕ} {h : List Task} {t u : Bool} (g : Ground l h t u) (tk : Task) (a : List ℕ) (f : Fits h t u tk) (s : length a ≤ answerMax) where
-  fresh : Underway (workAt l tk a) tk l 0
-  fresh = underway-start l tk a (index-ok g tk f a) s
+  job : Job
+  job = jobAt (stateOf h .chain) tk a
 
-  opened-left : leftOf (workAt l tk a) ≡ storesOf tk
-  opened-left = underway-left (workAt l tk a) tk l 0 fresh (omega arith) ∙ sub-zero (storesOf tk)
+  fresh : Underway (workAt l tk a) job l 0
+  unfolding job workAt workWith
+  fresh =
+      record {
+        carried =
+            record {
+              index = index-ok g tk f;
+              short = s;
+              number = ap numberOf (kind-same g tk f);
+              position = refl;
+              long = refl;
+              answer = seam a;
+            };
+        plans = plan-answer l tk a;
+        count = length-at l tk ∙ ap numberOf (kind-same g tk f);
+      }
 
-  start : (b : Bool) → b ≡ isBoot tk → Inv l (some (record { work = workAt l tk a; boot = b })) h (some tk) 0 t u
-  start b e = go (storesOf tk) refl
+  opened-left : leftOf (workAt l tk a) ≡ job .stores
+  opened-left = carried-left (workAt l tk a) job 0 (fresh .carried) zero-le ∙ sub-zero (job .stores)
+
+  -- a task with no stores is only opened where nothing is unfinished
+  rest : job .stores ≡ 0 → u ≡ false
+  unfolding job
+  rest e = elim (f .rest e) [ inl q ↦ q | inr q ↦ calm g q ]
+
+  start : (b : Bool) → b ≡ isBoot tk → Inv l (some (record { work = workAt l tk a; boot = b })) h (some job) 0 t u
+  unfolding job
+  start b e = go (job .stores) refl
     where
-      go : (n : ℕ) → storesOf tk ≡ n → Inv l (some (record { work = workAt l tk a; boot = b })) h (some tk) 0 t u
+      go : (n : ℕ) → job .stores ≡ n → Inv l (some (record { work = workAt l tk a; boot = b })) h (some job) 0 t u
       go zero z =
-          subst (λ (x : Bool). Inv l (some (record { work = workAt l tk a; boot = b })) h (some tk) 0 t x) (sym (rest g tk f z))
-          (done (subst (λ (x : Bool). Ground l h t x) (rest g tk f z) g) (sym z) (opened-left ∙ z) e)
-      go (suc n) z = going {tk = tk} {k = 0} l u g f fresh (omega arith) refl refl e
+          subst (λ (x : Bool). Inv l (some (record { work = workAt l tk a; boot = b })) h (some job) 0 t x) (sym (rest z))
+          (done (subst (λ (x : Bool). Ground l h t x) (rest z) g) (sym z) (fresh .carried) e)
+      go (suc n) z = going {j = job} {k = 0} l u g f fresh refl (omega arith) refl refl e
+
+  kind-name : kindName (workAt l tk a .kind) ≡ kindName (factsOf tk .kind (treeAt (stateOf h .chain)))
+  unfolding workAt workWith
+  kind-name = ap kindName (kind-same g tk f)
+
+  answer-held : take (workAt l tk a .«answer_len») (workAt l tk a .answer) ≡ a
+  unfolding workAt workWith
+  answer-held = seam a
 
 -- ---- a request
 
 -- whether the work in hand would tear does not change the rules: where it would, the ledger is unfinished
-pub rule-torn : {l : List ℕ} {w : Option Hand} {h : List Task} {d : Option Task} {k : ℕ} {t u : Bool} → Inv l w h d k t u → (r : Request)
+pub rule-torn : {l : List ℕ} {w : Option Hand} {h : List Task} {d : Option Job} {k : ℕ} {t u : Bool} → Inv l w h d k t u → (r : Request)
     → ruling (viewOf h (t || tears d k) u) r ≡ ruling (viewOf h t u) r
 unfolding ruling viewOf
 rule-torn {t = t} (empty g) r = rw (or-false t)
-rule-torn {k = k} {t} (done {tk = tk} g e n b) r = rw (no-tear tk k e, or-false t)
-rule-torn {k = zero} {t} (going base v g f w p q c b) r = rw (or-false t)
-rule-torn {k = suc k} {t} (going base v g f w p q c b) r = rw c
+rule-torn {k = k} {t} (done {j = j} g e c b) r = rw (no-tear (j .stores) k e, or-false t)
+rule-torn {k = zero} {t} (going base v g f w n p q c b) r = rw (or-false t)
+rule-torn {k = suc k} {t} (going base v g f w n p q c b) r = rw c
 
 module _ (m : Machine) (b : Ledger) (i : Related m b) where
   -- torn, if the work in hand goes
@@ -198,24 +230,22 @@ module _ (m : Machine) (b : Ledger) (i : Related m b) where
 
   after-request : (R : Ruling) → FitsRuling (b .history) gone (b .unfinished) false R
       → Together (afterRequest m (openedOf (m .image) R .work) (openedOf (m .image) R .status)) (ledgerRequest b R)
-  unfolding letGo gone
+  unfolding letGo gone job
   after-request (refused n) f = record { related = i; result = refl }
   after-request (accepted tk a) f =
-      let p = prepared (m .image) tk a in
       record {
         related = start ground tk a (f .0) (f .1) false (f .2);
-        result = λ j. opened (p .kind j) (opened-left ground tk a (f .0) (f .1) j) (p .answer j);
+        result = λ j. opened (kind-name ground tk a (f .0) (f .1) j) (opened-left ground tk a (f .0) (f .1) j) (answer-held ground tk a (f .0) (f .1) j);
       }
 
   after-boot : (R : Ruling) → FitsRuling (b .history) gone (b .unfinished) true R
       → Together (afterBoot m (bootedOf (m .image) R .work) (bootedOf (m .image) R .status)) (ledgerBoot b R)
-  unfolding letGo gone
+  unfolding letGo gone job
   after-boot (refused n) f = record { related = i; result = refl }
   after-boot (accepted tk a) f =
-      let p = prepared (m .image) tk a in
       record {
         related = start ground tk a (f .0) (f .1) true (f .2);
-        result = λ j. booted (outcomeNumber (outcomeOf tk)) (p .kind j) (opened-left ground tk a (f .0) (f .1) j);
+        result = λ j. booted (outcomeNumber (outcomeOf (factsOf tk .boot))) (kind-name ground tk a (f .0) (f .1) j) (opened-left ground tk a (f .0) (f .1) j);
       }
 
   sim-request : (r : Request) → Together (step m (request r)) (ledgerStep b (request r))
@@ -228,23 +258,24 @@ module _ (m : Machine) (b : Ledger) (i : Related m b) where
       now : Ruling
       now = ruling (viewOf (b .history) (b .torn) (b .unfinished)) r
 
-      same : cond (not (eqb (length (m .image)) imageWords)) (refused 1) (ruling (viewIn (m .image)) r) ≡ now
+      same : cond (not (eqb (length (m .image)) imageWords)) (refused number.wrongImage) (ruling (viewIn (m .image)) r) ≡ now
       same = rw (ground-length ground) (rule-same ground r ∙ rule-torn i r)
 
   -- ---- an update boot
 
-  sim-boot : (d s : List ℕ) (v : Bool) → Together (step m (updateBoot d s v)) (ledgerStep b (updateBoot d s v))
+  sim-boot : (x : BootInputs) (v : Bool) → Together (step m (updateBoot x v)) (ledgerStep b (updateBoot x v))
   unfolding step ledgerStep openUpdateBoot letGo gone
-  sim-boot d s v =
-      subst (λ (R : Ruling). Together (afterBoot m (bootedOf (m .image) R .work) (bootedOf (m .image) R .status)) (ledgerBoot b (bootRuling b d s v)))
+  sim-boot x v =
+      subst (λ (R : Ruling). Together (afterBoot m (bootedOf (m .image) R .work) (bootedOf (m .image) R .status)) (ledgerBoot b (updateRuling b x v)))
       (sym same)
-      (after-boot (bootRuling b d s v) (fits-first (b .history) gone (b .unfinished) true (bootRules d s) _ (fits-boot (b .history) gone (b .unfinished) v d s)))
+      (after-boot (updateRuling b x v)
+      (decided (FitsRuling (b .history) gone (b .unfinished) true) (bootRules x) refused _ (λ n. tt) (λ n. tt) (λ n. fits-boot (b .history) gone (b .unfinished) v x)))
     where
-      same : cond (not (eqb (length (m .image)) imageWords)) (refused 1) (firstRefusal (bootRules d s) (accepted (updateTask (intact (m .image)) v d s) []))
-          ≡ bootRuling b d s v
+      same : cond (not (eqb (length (m .image)) imageWords)) (refused number.wrongImage) (bootRuling (bootRules x) (updateTask (intact (m .image)) v x))
+          ≡ updateRuling b x v
       same =
           rw (ground-length ground)
-          (ap (λ (x : Bool). firstRefusal (bootRules d s) (accepted (updateTask x v d s) [])) (intact-same ground))
+          (ap (λ (y : Bool). bootRuling (bootRules x) (updateTask y v x)) (intact-same ground))
 
   -- ---- a power cut
 
@@ -252,77 +283,92 @@ module _ (m : Machine) (b : Ledger) (i : Related m b) where
   unfolding step ledgerStep letGo gone
   sim-cut = record { related = empty ground; result = refl }
 
+-- ---- an answer
+
+answer-both : {l : List ℕ} {w : Option Hand} {h : List Task} {d : Option Job} {k : ℕ} {t u : Bool} → Inv l w h d k t u → (a : List ℕ)
+    → answerTaken w a ≡ ledgerAnswer d k a
+answer-both (empty g) a = refl
+answer-both (done {p = p} {j = j} {k} g e c b) a = carried-answer (p .work) j k c (omega arith) a
+answer-both (going {p = p} {j = j} {k} base v g f w n q e c b) a = carried-answer (p .work) j k (w .carried) (omega arith) a
+
+sim-answer : (m : Machine) (b : Ledger) → Related m b → (a : List ℕ) → Together (step m (answer a)) (ledgerStep b (answer a))
+unfolding step ledgerStep
+sim-answer m b i a = record { related = i; result = answer-both i a }
+
 -- ---- a store
 
 abbrev machine : List ℕ → Option Hand → Machine
 machine l p = record { image = l; hand = p }
 
-abbrev ledger : List Task → Option Task → ℕ → Bool → Bool → Ledger
+abbrev ledger : List Task → Option Job → ℕ → Bool → Bool → Ledger
 ledger h d k t u = record { history = h; hand = d; made = k; torn = t; unfinished = u }
 
 -- what the machine makes of a store's answer
-abbrev answered : Hand → Stored → List ℕ → Step Machine
-answered p r l =
+abbrev storeStep : Hand → Stored → List ℕ → Step Machine
+storeStep p r l =
     record {
       state = machine l (some (record { work = r .work; boot = p .boot }));
       result = cond (eqb (r .number) 0) (stored (leftOf (r .work))) (refusal (r .number));
     }
 
-store-both : {l : List ℕ} {w : Option Hand} {h : List Task} {d : Option Task} {k : ℕ} {t u : Bool} → Inv l w h d k t u
+store-both : {l : List ℕ} {w : Option Hand} {h : List Task} {d : Option Job} {k : ℕ} {t u : Bool} → Inv l w h d k t u
     → Together (afterStore (machine l w) w) (ledgerStore (ledger h d k t u) d)
 store-both (empty g) = record { related = empty g; result = refl }
-store-both (done {l} {p} {h} {tk} {k} {t} g e n b) =
-    rw (le-ltb k (storesOf tk) (omega arith))
-    (subst (λ (x : Step Machine). Together x (record { state = ledger h (some tk) k t false; result = refusal 9 })) (sym no-store)
-    (record { related = done g e n b; result = refl }))
+store-both (done {l} {p} {h} {j} {k} {t} g e c b) =
+    rw (le-ltb k (j .stores) (omega arith))
+    (subst (λ (x : Step Machine). Together x (record { state = ledger h (some j) k t false; result = refusal number.noStoreLeft })) (sym no-store)
+    (record { related = done g e c b; result = refl }))
   where
-    no-store : afterStore (machine l (some p)) (some p) ≡ record { state = machine l (some p); result = refusal 9 }
-    no-store = let s = store-refused (p .work) l (ground-length g) n in λ i. answered p (s .0 i) (s .1 i)
-store-both (going {l} {p} {h} {tk} {k} {t} {u} base v g f w q e c b) =
-    rw (lt-ltb k (storesOf tk) q)
-    (subst (λ (x : Step Machine). Together x (cond (eqb (suc k) (storesOf tk)) last more)) (sym one-store) (go (ℕ-discrete (suc k) (storesOf tk))))
+    no-store : afterStore (machine l (some p)) (some p) ≡ record { state = machine l (some p); result = refusal number.noStoreLeft }
+    no-store =
+        let z : leftOf (p .work) ≡ 0 = omega (arith, carried-left (p .work) j k c (omega arith)) in
+        let s = store-refused (p .work) l (ground-length g) z in
+        λ i. storeStep p (s .0 i) (s .1 i)
+store-both (going {l} {p} {h} {j} {k} {t} {u} base v g f w n q e c b) =
+    rw (lt-ltb k (j .stores) q)
+    (subst (λ (x : Step Machine). Together x (cond (eqb (suc k) (j .stores)) last more)) (sym one-store) (go (ℕ-discrete (suc k) (j .stores))))
   where
     after : Hand
     after = record { work = moved (p .work); boot = p .boot }
 
     image : List ℕ
-    image = apply (take (suc k) (planAt base tk)) base
+    image = apply (take (suc k) (planAt base (j .task))) base
 
-    left : leftOf (p .work) ≡ storesOf tk - k
-    left = underway-left (p .work) tk base k w (omega arith)
+    left : leftOf (p .work) ≡ j .stores - k
+    left = carried-left (p .work) j k (w .carried) (omega arith)
 
-    left-after : leftOf (moved (p .work)) ≡ storesOf tk - suc k
-    left-after = underway-left (moved (p .work)) tk base (suc k) (underway-moved w) q
+    left-after : leftOf (moved (p .work)) ≡ j .stores - suc k
+    left-after = carried-left (moved (p .work)) j (suc k) (carried-moved (w .carried)) q
 
     one-store : afterStore (machine l (some p)) (some p) ≡ record { state = machine image (some after); result = stored (leftOf (moved (p .work))) }
     one-store =
-        let s = store-made (p .work) l (ap length e ∙ length-apply (take k (planAt base tk)) base ∙ ground-length g) (omega (arith, left)) in
-        (λ i. answered p (s .0 i) (s .1 i))
-        ∙ ap (λ (z : List ℕ). answered p (record { number = 0; work = moved (p .work) }) z)
-        (ap (λ (z : List ℕ). set z (putOf (p .work) .address) (putOf (p .work) .value)) e ∙ next-image (p .work) tk base k w q)
+        let s = store-made (p .work) l (ap length e ∙ length-apply (take k (planAt base (j .task))) base ∙ ground-length g) (omega (arith, left)) in
+        (λ i. storeStep p (s .0 i) (s .1 i))
+        ∙ ap (λ (z : List ℕ). storeStep p (record { number = 0; work = moved (p .work) }) z)
+        (ap (λ (z : List ℕ). set z (putOf (p .work) .address) (putOf (p .work) .value)) e ∙ next-image (p .work) j base k w q)
 
     last : Step Ledger
-    last = record { state = ledger (h ++ (tk ∷ [])) (some tk) (suc k) t false; result = stored 0 }
+    last = record { state = ledger (h ++ (j .task ∷ [])) (some j) (suc k) t false; result = stored 0 }
 
     more : Step Ledger
-    more = record { state = ledger h (some tk) (suc k) t true; result = stored (storesOf tk - suc k) }
+    more = record { state = ledger h (some j) (suc k) t true; result = stored (j .stores - suc k) }
 
-    go : Dec (suc k ≡ storesOf tk)
-        → Together (record { state = machine image (some after); result = stored (leftOf (moved (p .work))) }) (cond (eqb (suc k) (storesOf tk)) last more)
+    go : Dec (suc k ≡ j .stores)
+        → Together (record { state = machine image (some after); result = stored (leftOf (moved (p .work))) }) (cond (eqb (suc k) (j .stores)) last more)
     go (yes z) =
-        rw (eq-eqb (suc k) (storesOf tk) z)
+        rw (eq-eqb (suc k) (j .stores) z)
         (record {
           related = done {p = after}
-              (subst (λ (x : List ℕ). Ground x (h ++ (tk ∷ [])) t false)
-              (sym (ap (λ (ps : List Put). apply ps base) (take-all (suc k) (planAt base tk) (omega (arith, length-at base tk)))))
-              (finish g tk f (omega arith)))
-              z (omega (arith, left-after)) b;
+              (subst (λ (x : List ℕ). Ground x (h ++ (j .task ∷ [])) t false)
+              (sym (ap (λ (ps : List Put). apply ps base) (take-all (suc k) (planAt base (j .task)) (omega (arith, w .count)))))
+              (finish g (j .task) f (omega (arith, n))))
+              z (carried-moved (w .carried)) b;
           result = ap stored (omega (arith, left-after));
         })
     go (no z) =
-        rw (ne-eqb (suc k) (storesOf tk) z)
+        rw (ne-eqb (suc k) (j .stores) z)
         (record {
-          related = going {tk = tk} {k = suc k} base v g f (underway-moved w) (omega arith) refl refl b;
+          related = going {j = j} {k = suc k} base v g f (underway-moved w) n (omega arith) refl refl b;
           result = ap stored left-after;
         })
 
@@ -334,8 +380,9 @@ sim-store m b i = store-both i
 
 pub sim : (m : Machine) (b : Ledger) (c : Call) → Related m b → Together (step m c) (ledgerStep b c)
 sim m b (request r) i = sim-request m b i r
-sim m b (updateBoot d s v) i = sim-boot m b i d s v
+sim m b (updateBoot x v) i = sim-boot m b i x v
 sim m b store i = sim-store m b i
+sim m b (answer a) i = sim-answer m b i a
 sim m b powerCut i = sim-cut m b i
 
 pub sim-run : (cs : List Call) (m : Machine) (b : Ledger) → Related m b → Related (run m cs) (ledgerRun b cs)

@@ -1,30 +1,34 @@
--- A list of calls and power cuts, and the machine that runs it on an image and the work in hand, by the very definitions that the entries' contracts cite
+-- Calls and power cuts, and the machine that makes them on an image and the work in hand, by the very definitions that the entries' contracts cite
 -- (document 01, "The book"). Assumes nothing.
-use Prim.Native.Nat.{ℕ, zero, suc}
+use Prim.Native.Nat.{ℕ}
 use mathlib.Core.Bool.{Bool, true, false, cond}
 use mathlib.Core.List.{List, [], _∷_}
 use mathlib.Core.Option.{Option, none, some}
 use lib.Dec.{eqb}
 use lib.ListN.{take}
-use Rattle.work.specs.Entries.{leftOf, storeResult, storeImage}
+use Rattle.work.specs.Entries.{leftOf, storeResult, storeImage, answerResult, answerBuffer}
 use Rattle.work.specs.declared.Kind.{Kind}
 use Rattle.work.specs.declared.Kind.the-variants.{Nothing, Disabling, Stash, Update, ColdBoot}
 use Rattle.work.specs.declared.Work.{Work}
-use Rattle.opening.specs.Tasks.{Request}
-use Rattle.opening.specs.Openings.{openRequest, openUpdateBoot, outcomeNumber}
+use Rattle.opening.specs.Tasks.{Request, BootInputs}
+use Rattle.opening.specs.Openings.{openRequest, openColdBoot, openUpdateBoot, outcomeNumber}
 use Rattle.opening.specs.declared.Status.{Status}
 use Rattle.opening.specs.declared.Status.the-variants as status
-use Rattle.opening.specs.declared.Opened.{Opened}
 use Rattle.opening.specs.declared.BootStatus.{BootStatus}
 use Rattle.opening.specs.declared.BootStatus.the-variants as bootStatus
-use Rattle.opening.specs.declared.Booted.{Booted}
 
--- "opening a request, opening an update boot, one store of the work in hand", and a power cut; "no cold boot follows"
+-- "opening a request, opening an update boot, one store of the work in hand", its answer into a buffer, and a power cut; "no cold boot follows"
 pub data Call : Type 0 where
   request : Request → Call
-  updateBoot : (digest secret : List ℕ) (verdict : Bool) → Call
+  updateBoot : BootInputs → (verdict : Bool) → Call
   store : Call
+  answer : (buffer : List ℕ) → Call
   powerCut : Call
+
+-- all that can be done to a unit: a cold boot opened, or a call
+pub data Act : Type 0 where
+  openCold : BootInputs → Act
+  call : Call → Act
 
 -- "cold boot, update, disabling, stash at a node, or nothing to store"
 pub data WorkKind : Type 0 where
@@ -37,17 +41,19 @@ kindName (Stash s) = stashing
 kindName (Update root) = updating
 kindName ColdBoot = coldBooting
 
--- what a call hands back
+-- what an act hands back
 pub data Result : Type 0 where
   -- refused, with its number
   refusal : ℕ → Result
   -- a request is open: the kind of work, its stores left and the answer that it will give
   opened : (kind : WorkKind) (left : ℕ) (answer : List ℕ) → Result
-  -- an update boot is open: the outcome's number, the kind of work and its stores left
+  -- a boot is open: the outcome's number, the kind of work and its stores left
   booted : (outcome : ℕ) (kind : WorkKind) (left : ℕ) → Result
   -- a store was made: the stores left
   stored : (left : ℕ) → Result
-  -- a store with no work in hand does nothing
+  -- an answer was asked for: its number, the bytes written, and the buffer afterwards
+  answered : (number written : ℕ) (buffer : List ℕ) → Result
+  -- with no work in hand a store or an answer does nothing
   noWork : Result
   -- the power was cut
   cutOff : Result
@@ -61,7 +67,7 @@ pub record Machine : Type 0 where
   pub image : List ℕ
   pub hand : Option Hand
 
--- a state and what the call handed back
+-- a state and what the act handed back
 pub record Step (S : Type 0) : Type 0 where
   pub state : S
   pub result : Result
@@ -90,12 +96,25 @@ afterStore m (some h) =
       result = cond (eqb (r .number) 0) (stored (leftOf (r .work))) (refusal (r .number));
     }
 
+-- the answer may be taken "as often as wished": nothing changes
+abbrev pub answerTaken : Option Hand → List ℕ → Result
+answerTaken none buffer = noWork
+answerTaken (some h) buffer =
+    let r = answerResult (h .work) buffer in
+    answered (r .number) (r .written) (answerBuffer (h .work) buffer)
+
 -- one call. "At a cut every store made stands whole ..; every other word is old; the work in hand goes."
 unfoldable pub step : Machine → Call → Step Machine
 step m (request r) = let o = openRequest (m .image) r in afterRequest m (o .work) (o .status)
-step m (updateBoot digest secret verdict) = let o = openUpdateBoot (m .image) digest secret verdict in afterBoot m (o .work) (o .status)
+step m (updateBoot x verdict) = let o = openUpdateBoot (m .image) x verdict in afterBoot m (o .work) (o .status)
 step m store = afterStore m (m .hand)
+step m (answer buffer) = record { state = m; result = answerTaken (m .hand) buffer }
 step m powerCut = record { state = record { image = m .image; hand = none }; result = cutOff }
+
+-- one act
+abbrev pub act : Machine → Act → Step Machine
+act m (openCold x) = let o = openColdBoot (m .image) x in afterBoot m (o .work) (o .status)
+act m (call c) = step m c
 
 -- a list of calls
 abbrev pub run : Machine → List Call → Machine
@@ -105,12 +124,3 @@ run m (c ∷ cs) = run (step m c .state) cs
 abbrev pub results : Machine → List Call → List Result
 results m [] = []
 results m (c ∷ cs) = step m c .result ∷ results (step m c .state) cs
-
--- an image after n stores of a work, each by the store entry
-abbrev pub storeAll : ℕ → Work → List ℕ → List ℕ
-storeAll zero w image = image
-storeAll (suc n) w image = storeAll n (storeResult w image .work) (storeImage w image)
-
--- "A list starts after all stores of a cold boot, whatever the image held before": the work w, made on the image before; none is in hand
-abbrev pub afterColdBoot : List ℕ → Work → Machine
-afterColdBoot before w = record { image = storeAll (leftOf w) w before; hand = none }

@@ -4,243 +4,212 @@ use Prim.Native.Nat.{ℕ, suc, _-_}
 use mathlib.Core.Bool.{Bool, true, false, cond, not, _&&_, _||_}
 use mathlib.Core.List.{List, [], _∷_, _++_, foldl, map}
 use mathlib.Core.Option.{Option, none, some}
-use lib.Dec.{eqb, leb, ltb}
-use lib.ListN.{getD, set, replicate}
+use lib.Dec.{eqb, ltb}
+use lib.ListN.{length, getD, set, replicate, drop}
 use Rattle.layout.specs.Sizes.{nodeCount, registerCount, currentRegister, journeyRegister, stashRegister}
-use Rattle.layout.specs.Words.{words48, zeros}
+use Rattle.layout.specs.Words.{words48, zeros, flat}
+use Rattle.layout.specs.Refusals as number
 use Rattle.sha384.specs.Entries.{extended}
-use Rattle.tree.specs.Nodes.{wellFormed, freeOf}
-use Rattle.tree.specs.Record.{Node, retiredHandle, slotRow, isFree, isRootNode, isHolder}
+use Rattle.tree.specs.Tree.{Tree, defaultWords, rootIn, nodeWith, lowestFree}
+use Rattle.tree.specs.Record.{Node, retiredHandle, placeRow, withHandle, withCurrent, withCumulative, treeOf}
 use Rattle.work.specs.Table.{numberOf}
-use Rattle.work.specs.declared.Kind.the-variants.{Disabling, Stash, Update, ColdBoot}
 use Rattle.opening.specs.Values.{measured, childNode, rootNode}
-use Rattle.opening.specs.Tasks.{Request, Task, noStores, keptBoot, disableCommand, disablingBoot, stash, update, coldBoot, Ruling, refused, accepted, View, firstRefusal, requestRules, requestAccepted, bootRules, updateTask}
+use Rattle.opening.specs.Tasks.{Request, BootInputs, Task, noStores, keptBoot, disableCommand, disablingBoot, stash, update, coldBoot, Ruling, refused, accepted, View}
+use Rattle.opening.specs.Rules.{requestRules, requestRuling, bootRules, bootRuling, updateTask}
+use Rattle.opening.specs.Works.{factsOf}
 use Rattle.opening.specs.Openings.{outcomeOf, outcomeNumber}
-use Rattle.history.specs.Calls.{Call, request, updateBoot, store, powerCut, WorkKind, nothingToStore, disabling, stashing, updating, coldBooting, Result, refusal, opened, booted, stored, noWork, cutOff, Step}
+use Rattle.opening.specs.declared.Outcome.{Outcome}
+use Rattle.history.specs.Calls.{Call, request, updateBoot, store, answer, powerCut, kindName, Result, refusal, opened, booted, stored, answered, noWork, cutOff, Step}
 
 -- ---- registers and chain of a history: demand 2's definitions, applied in order
 
--- secret and registers are byte strings of 48; a place for a node is free or holds one
-pub record State : Type 0 where
-  pub secret : List ℕ
+-- registers are byte strings of 48; a place for a node is free or holds one
+pub record Chain : Type 0 where
   pub registers : List (List ℕ)
   pub nodes : List (Option Node)
 
--- the first index at which f holds; the length if there is none
-abbrev pub find : {A : Type 0} → (A → Bool) → List A → ℕ
-find f [] = 0
-find f (x ∷ xs) = cond (f x) 0 (suc (find f xs))
+pub record State : Type 0 where
+  pub secret : List ℕ
+  pub chain : Chain
 
--- "The old holder is retired."
-abbrev pub retired : Option Node → Option Node
-retired none = none
-retired (some n) =
-    some
-    (record {
-      parent = n .parent;
-      tag = n .tag;
-      handle = retiredHandle;
-      flags = n .flags;
-      current = n .current;
-      cumulative = n .cumulative;
-      type = n .type;
-      locality = n .locality;
-    })
+-- the nodes as a tree
+abbrev pub treeAt : Chain → Tree
+treeAt x = treeOf (x .nodes)
+
+-- a used place with its node changed
+abbrev pub changed : (Node → Node) → Option Node → Option Node
+changed f none = none
+changed f (some n) = some (f n)
 
 -- "root's current is the new PCR3, and root's cumulative is extended by that"
-abbrev pub renewed : List ℕ → Option Node → Option Node
-renewed journey none = none
-renewed journey (some n) =
-    some
-    (record {
-      parent = n .parent;
-      tag = n .tag;
-      handle = n .handle;
-      flags = n .flags;
-      current = journey;
-      cumulative = extended (n .cumulative) journey;
-      type = n .type;
-      locality = n .locality;
-    })
+abbrev pub renewed : List ℕ → Node → Node
+renewed journey n = withCumulative (extended (n .cumulative) journey) (withCurrent journey n)
 
--- what one counted work makes of secret, registers and nodes
-unfoldable pub next : State → Task → State
-next x noStores = x
-next x keptBoot = x
--- "secret zero"
-next x disableCommand = record { secret = zeros 48; registers = x .registers; nodes = x .nodes }
-next x disablingBoot = record { secret = zeros 48; registers = x .registers; nodes = x .nodes }
+-- what one counted work makes of registers and nodes
+unfoldable pub nextChain : Chain → Task → Chain
+nextChain x noStores = x
+nextChain x keptBoot = x
+nextChain x disableCommand = x
+nextChain x disablingBoot = x
 -- "PCR31 is extended by the digest. The lowest free node becomes used .. The old holder is retired."
-next x (stash type digest svn caller) =
-    let holder = find isHolder (x .nodes) in
+nextChain x (stash m) =
+    let holder = nodeWith nodeCount (treeAt x) defaultWords in
     record {
-      secret = x .secret;
-      registers = set (x .registers) stashRegister (extended (getD (x .registers) stashRegister []) digest);
+      registers = set (x .registers) stashRegister (extended (getD (x .registers) stashRegister []) (m .digest));
       nodes =
-          set (set (x .nodes) (find isFree (x .nodes)) (some (childNode holder type digest caller)))
-          holder
-          (retired (getD (x .nodes) holder none));
+          set (set (x .nodes) (lowestFree nodeCount (treeAt x)) (some (childNode holder m))) holder
+          (changed (withHandle retiredHandle) (getD (x .nodes) holder none));
     }
--- "PCR2 is zero extended by the digest, PCR3 is extended by it, the secret is the new one", and the root
-next x (update digest secret) =
-    let journey = extended (getD (x .registers) journeyRegister []) digest in
-    let root = find isRootNode (x .nodes) in
+-- "PCR2 is zero extended by the digest, PCR3 is extended by it", and the root
+nextChain x (update b) =
+    let journey = extended (getD (x .registers) journeyRegister []) (b .digest) in
+    let root = rootIn nodeCount (treeAt x) in
     record {
-      secret = secret;
-      registers = set (set (x .registers) currentRegister (measured digest)) journeyRegister journey;
-      nodes = set (x .nodes) root (renewed journey (getD (x .nodes) root none));
+      registers = set (set (x .registers) currentRegister (measured (b .digest))) journeyRegister journey;
+      nodes = set (x .nodes) root (changed (renewed journey) (getD (x .nodes) root none));
     }
 -- "PCR2 and PCR3 are 48 zero bytes extended by the digest; other registers zero .. Node 0 is the root .. Other nodes zero."
-next x (coldBoot digest secret) =
+nextChain x (coldBoot b) =
+    let journey = measured (b .digest) in
     record {
-      secret = secret;
-      registers = set (set (replicate registerCount (zeros 48)) currentRegister (measured digest)) journeyRegister (measured digest);
-      nodes = set (replicate nodeCount none) 0 (some (rootNode (measured digest)));
+      registers = set (set (replicate registerCount (zeros 48)) currentRegister journey) journeyRegister journey;
+      nodes = set (replicate nodeCount none) 0 (some (rootNode journey));
     }
+
+-- and of the secret
+abbrev pub next : State → Task → State
+next x t = record { secret = factsOf t .secret (x .secret); chain = nextChain (x .chain) t }
 
 -- before the cold boot, which replaces all of it
 abbrev pub blank : State
-blank = record { secret = []; registers = []; nodes = [] }
+blank = record { secret = []; chain = record { registers = []; nodes = [] } }
 
 unfoldable pub stateOf : List Task → State
 stateOf history = foldl next blank history
 
 -- ---- the one encoding to words
 
-abbrev pub flat : List (List ℕ) → List ℕ
-flat [] = []
-flat (b ∷ bs) = b ++ flat bs
-
-abbrev pub registerRows : State → List ℕ
+abbrev pub registerRows : Chain → List ℕ
 registerRows x = flat (map words48 (x .registers))
 
-abbrev pub nodeRows : State → List ℕ
-nodeRows x = flat (map slotRow (x .nodes))
+abbrev pub nodeRows : Chain → List ℕ
+nodeRows x = flat (map placeRow (x .nodes))
 
 -- mark, attestation, two zero words, secret, registers, nodes
 unfoldable pub imageOf : ℕ → ℕ → State → List ℕ
-imageOf mark attestation x = (mark ∷ attestation ∷ 0 ∷ 0 ∷ words48 (x .secret)) ++ (registerRows x ++ nodeRows x)
+imageOf mark attestation x = (mark ∷ attestation ∷ 0 ∷ 0 ∷ words48 (x .secret)) ++ (registerRows (x .chain) ++ nodeRows (x .chain))
 
 -- ---- the ledger
+
+-- a work in hand: its task, the number of its stores at its opening, and its answer
+pub record Job : Type 0 where
+  pub task : Task
+  pub stores : ℕ
+  pub answer : List ℕ
 
 -- "It holds the history (counted work and its inputs, the cold boot first), the work in hand, its stores made, whether one was ever torn, and whether the
 -- book is unfinished (at first, no)."
 pub record Ledger : Type 0 where
   pub history : List Task
-  pub hand : Option Task
+  pub hand : Option Job
   pub made : ℕ
   pub torn : Bool
   pub unfinished : Bool
-
--- the column "Number" of the store table
-abbrev pub storesOf : Task → ℕ
-storesOf noStores = 0
-storesOf keptBoot = 0
-storesOf disableCommand = numberOf Disabling
-storesOf disablingBoot = numberOf Disabling
-storesOf (stash type digest svn caller) = numberOf (Stash (record { node = 0; holder = 0 }))
-storesOf (update digest secret) = numberOf (Update 0)
-storesOf (coldBoot digest secret) = numberOf ColdBoot
-
-abbrev pub taskKind : Task → WorkKind
-taskKind noStores = nothingToStore
-taskKind keptBoot = nothingToStore
-taskKind disableCommand = disabling
-taskKind disablingBoot = disabling
-taskKind (stash type digest svn caller) = stashing
-taskKind (update digest secret) = updating
-taskKind (coldBoot digest secret) = coldBooting
 
 abbrev pub any : (Task → Bool) → List Task → Bool
 any f [] = false
 any f (t ∷ ts) = f t || any f ts
 
 abbrev pub disables : Task → Bool
-disables noStores = false
-disables keptBoot = false
-disables disableCommand = true
-disables disablingBoot = true
-disables (stash type digest svn caller) = false
-disables (update digest secret) = false
-disables (coldBoot digest secret) = false
+disables t = factsOf t .disables
+
+abbrev pub isNone : Option Outcome → Bool
+isNone none = true
+isNone (some o) = false
 
 -- a disable command, and not a boot's disabling
 abbrev pub isDisableCommand : Task → Bool
-isDisableCommand noStores = false
-isDisableCommand keptBoot = false
-isDisableCommand disableCommand = true
-isDisableCommand disablingBoot = false
-isDisableCommand (stash type digest svn caller) = false
-isDisableCommand (update digest secret) = false
-isDisableCommand (coldBoot digest secret) = false
+isDisableCommand t = factsOf t .disables && isNone (factsOf t .boot)
 
 -- "It is off if one was torn or a disabling counted."
 abbrev pub isOff : List Task → Bool → Bool
 isOff history torn = torn || any disables history
 
+abbrev pub chainOf : Ledger → Chain
+chainOf b = stateOf (b .history) .chain
+
 -- "the request rules decide, with the book for the image: unfinished for mark not 1, off for attestation off"
 unfoldable pub viewOf : List Task → Bool → Bool → View
 viewOf history torn unfinished =
-    let image = imageOf 1 1 (stateOf history) in
-    record {
-      done = not unfinished;
-      on = not (isOff history torn);
-      formed = wellFormed image;
-      full = leb nodeCount (freeOf image);
-    }
+    record { done = not unfinished; on = not (isOff history torn); nodes = treeAt (stateOf history .chain) }
 
 -- "A work that goes, by a cut or another opening, after its first store and before its last is torn and counts as cut."
-abbrev pub tears : Option Task → ℕ → Bool
+abbrev pub tears : Option Job → ℕ → Bool
 tears none made = false
-tears (some t) made = ltb 0 made && ltb made (storesOf t)
+tears (some j) made = ltb 0 made && ltb made (j .stores)
 
 -- the work in hand goes
 unfoldable pub letGo : Ledger → Ledger
 letGo b =
     record { history = b .history; hand = none; made = 0; torn = b .torn || tears (b .hand) (b .made); unfinished = b .unfinished }
 
+-- a task with its answer, opened at a chain
+abbrev pub jobAt : Chain → Task → List ℕ → Job
+jobAt x t a = record { task = t; stores = numberOf (factsOf t .kind (treeAt x)); answer = a }
+
 -- "An accepted opening's work becomes the one in hand; the one before is never taken up again."
-abbrev pub takeUp : Ledger → Task → Ledger
-takeUp b t = record { history = b .history; hand = some t; made = 0; torn = b .torn; unfinished = b .unfinished }
+abbrev pub takeUp : Ledger → Job → Ledger
+takeUp b j = record { history = b .history; hand = some j; made = 0; torn = b .torn; unfinished = b .unfinished }
 
 abbrev pub ledgerRequest : Ledger → Ruling → Step Ledger
 ledgerRequest b (refused n) = record { state = b; result = refusal n }
-ledgerRequest b (accepted t a) = record { state = takeUp (letGo b) t; result = opened (taskKind t) (storesOf t) a }
+ledgerRequest b (accepted t a) =
+    let j = jobAt (chainOf b) t a in
+    record { state = takeUp (letGo b) j; result = opened (kindName (factsOf t .kind (treeAt (chainOf b)))) (j .stores) a }
 
 abbrev pub ledgerBoot : Ledger → Ruling → Step Ledger
 ledgerBoot b (refused n) = record { state = b; result = refusal n }
 ledgerBoot b (accepted t a) =
-    record { state = takeUp (letGo b) t; result = booted (outcomeNumber (outcomeOf t)) (taskKind t) (storesOf t) }
+    let j = jobAt (chainOf b) t a in
+    record {
+      state = takeUp (letGo b) j;
+      result = booted (outcomeNumber (outcomeOf (factsOf t .boot))) (kindName (factsOf t .kind (treeAt (chainOf b)))) (j .stores);
+    }
 
 -- "Update boot: refused with 6, or the work in hand goes; then disabling if off, else kept or update by ROM's verdict."
-abbrev pub bootRuling : Ledger → List ℕ → List ℕ → Bool → Ruling
-bootRuling b digest secret verdict =
-    let after = letGo b in
-    firstRefusal (bootRules digest secret) (accepted (updateTask (not (isOff (after .history) (after .torn))) verdict digest secret) [])
+abbrev pub updateRuling : Ledger → BootInputs → Bool → Ruling
+updateRuling b x verdict = let after = letGo b in bootRuling (bootRules x) (updateTask (not (isOff (after .history) (after .torn))) verdict x)
 
 -- "Store: none left, refused; else one more made. The first makes the book unfinished; the last ends that and the work joins the history."
-abbrev pub ledgerStore : Ledger → Option Task → Step Ledger
+abbrev pub ledgerStore : Ledger → Option Job → Step Ledger
 ledgerStore b none = record { state = b; result = noWork }
-ledgerStore b (some t) =
-    cond (ltb (b .made) (storesOf t))
-    (cond (eqb (suc (b .made)) (storesOf t))
+ledgerStore b (some j) =
+    cond (ltb (b .made) (j .stores))
+    (cond (eqb (suc (b .made)) (j .stores))
     (record {
-      state = record { history = b .history ++ (t ∷ []); hand = some t; made = suc (b .made); torn = b .torn; unfinished = false };
+      state = record { history = b .history ++ (j .task ∷ []); hand = some j; made = suc (b .made); torn = b .torn; unfinished = false };
       result = stored 0;
     })
     (record {
-      state = record { history = b .history; hand = some t; made = suc (b .made); torn = b .torn; unfinished = true };
-      result = stored (storesOf t - suc (b .made));
+      state = record { history = b .history; hand = some j; made = suc (b .made); torn = b .torn; unfinished = true };
+      result = stored (j .stores - suc (b .made));
     }))
-    (record { state = b; result = refusal 9 })
+    (record { state = b; result = refusal number.noStoreLeft })
+
+-- "The answer may be taken only after the last store": 7, or 8 where the buffer is too short, or the answer at its front
+abbrev pub ledgerAnswer : Option Job → ℕ → List ℕ → Result
+ledgerAnswer none made buffer = noWork
+ledgerAnswer (some j) made buffer =
+    cond (ltb made (j .stores)) (answered number.storesLeft 0 buffer)
+    (cond (ltb (length buffer) (length (j .answer))) (answered number.shortBuffer 0 buffer)
+    (answered 0 (length (j .answer)) (j .answer ++ drop (length (j .answer)) buffer)))
 
 -- one call; "Refused calls change nothing."
 unfoldable pub ledgerStep : Ledger → Call → Step Ledger
-ledgerStep b (request r) =
-    let v = viewOf (b .history) (b .torn) (b .unfinished) in
-    ledgerRequest b (firstRefusal (requestRules v r) (requestAccepted v r))
-ledgerStep b (updateBoot digest secret verdict) = ledgerBoot b (bootRuling b digest secret verdict)
+ledgerStep b (request r) = ledgerRequest b (requestRuling (requestRules (viewOf (b .history) (b .torn) (b .unfinished)) r) r)
+ledgerStep b (updateBoot x verdict) = ledgerBoot b (updateRuling b x verdict)
 ledgerStep b store = ledgerStore b (b .hand)
+ledgerStep b (answer buffer) = record { state = b; result = ledgerAnswer (b .hand) (b .made) buffer }
 ledgerStep b powerCut = record { state = letGo b; result = cutOff }
 
 abbrev pub ledgerRun : Ledger → List Call → Ledger
@@ -252,6 +221,5 @@ ledgerResults b [] = []
 ledgerResults b (c ∷ cs) = ledgerStep b c .result ∷ ledgerResults (ledgerStep b c .state) cs
 
 -- after the cold boot's last store
-abbrev pub firstLedger : List ℕ → List ℕ → Ledger
-firstLedger digest secret =
-    record { history = coldBoot digest secret ∷ []; hand = none; made = 0; torn = false; unfinished = false }
+abbrev pub firstLedger : BootInputs → Ledger
+firstLedger x = record { history = coldBoot x ∷ []; hand = none; made = 0; torn = false; unfinished = false }

@@ -12,7 +12,8 @@ use Rattle.layout.specs.Words.{tab, zeros, wordsAt, words48, flat}
 use Rattle.layout.proofs.Tab.{length-zeros, getD-zeros, tab-full, tab-is}
 use Rattle.layout.proofs.Packing.{length-words}
 use Rattle.layout.proofs.Blocks.{offset, block-at, block-sets}
-use Rattle.tree.specs.Record.{Node, defaultHandle, handleRow, fieldsFrom, fieldsOf, nodeRow, placeRow, withHandle, withCurrent, withCumulative}
+use Rattle.tree.specs.Tree.{retiredWords}
+use Rattle.tree.specs.Record.{Node, defaultHandle, retiredHandle, handleRow, fieldsFrom, fieldsOf, nodeRow, placeRow, withHandle, withCurrent, withCumulative}
 
 pub length-handle : (h : List ℕ) → length (handleRow h) ≡ handleWords
 length-handle h = length-words handleWords h 0
@@ -94,6 +95,10 @@ length-row (some n) = simp (length-append, length-handle, length-words)
 pub default-row : handleRow defaultHandle ≡ zeros handleWords
 unfolding wordsAt tab zeros
 default-row = refl
+
+pub retired-row : handleRow retiredHandle ≡ retiredWords
+unfolding wordsAt tab
+retired-row = refl
 
 module _ (first flags type locality : ℕ) (current cumulative : List ℕ) (hc : length current ≡ registerWords) (hm : length cumulative ≡ registerWords) where
   abbrev raw : List (List ℕ)
