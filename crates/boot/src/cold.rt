@@ -1,29 +1,37 @@
-// Opening a cold boot: the same work whatever the image holds.
+// A cold boot: the same work whatever the image holds.
 ghost use mathlib.Core.Path.{_≡_};
 ghost use mathlib.Core.List.{[]};
 ghost use lib.ListN.{length};
-ghost use Rattle.opening.specs.Works.{coldWork};
-ghost use Rattle.opening.specs.Openings.{openColdBoot};
+ghost use Rattle.opening.specs.Tasks.{bootOf, coldBoot};
+ghost use Rattle.opening.specs.Works.{workAt};
+ghost use Rattle.opening.specs.Openings.{bootNumber, outcomeIn, openColdBoot, coldBooted};
 use crate::inputs::inputs_ok;
-use layout::ANSWER_MAX;
 use layout::IMAGE_WORDS;
 use layout::INTERNAL_FLAG;
 use layout::ROOT_MARK;
 use layout::ROOT_TYPE;
 use layout::little_endian::pack;
+use layout::refusals::WRONG_IMAGE;
+use layout::refusals::WRONG_INPUTS;
+use layout::strings::bytes_of;
+use opening::BootStatus;
 use opening::Booted;
 use opening::Outcome;
-use opening::values::bytes_of;
-use opening::values::node_row;
+use opening::works::boot_number;
 use opening::works::boot_ready;
 use opening::works::boot_refused;
 use sha384::digest::extend;
+use tree::row::node_row;
 use work::Kind;
 use work::Work;
+use work::make::Values;
+use work::make::new_work;
+use work::make::no_answer;
+use work::run::run_all;
 
 fn cold_work(digest: &[u8], secret: &[u8]) -> Work
     requires { ⌜ length (now digest) ≡ 48 ⌝ }
-    ensures { λ r. ⌜ r ≡ coldWork (now (digest .entry)) (now (secret .entry)) [] ⌝ }
+    ensures { λ r. ⌜ r ≡ workAt [] (coldBoot (bootOf (now (digest .entry)) (now (secret .entry)))) [] ⌝ }
 {
     let zero = [0u8; 48];
     let journey = extend(zero, bytes_of(digest, 0));
@@ -38,28 +46,42 @@ fn cold_work(digest: &[u8], secret: &[u8]) -> Work
         0,
     );
     let words = pack(secret, 0);
-    Work {
-        kind: Kind::ColdBoot,
-        position: 0,
+    let values = Values {
         register,
         journey: register,
         node,
         secret: words,
-        answer: [0u8; ANSWER_MAX],
-        answer_len: 0,
-    }
+    };
+    new_work(Kind::ColdBoot, values, no_answer())
 }
 
 // Opens a cold boot: it reads only the image's length and changes nothing.
 pub fn open_cold_boot(image: &[u32], digest: &[u8], secret: &[u8]) -> Booted
-    ensures { λ r. ⌜ r ≡ openColdBoot (now (image .entry)) (now (digest .entry)) (now (secret .entry)) ⌝ }
+    ensures { λ r. ⌜ r ≡ openColdBoot (now (image .entry)) (bootOf (now (digest .entry)) (now (secret .entry))) ⌝ }
+    ensures { λ r. ⌜ bootNumber (r .status) ≡ bootNumber (openColdBoot (now (image .entry)) (bootOf (now (digest .entry)) (now (secret .entry))) .status) ⌝ }
+    ensures { λ r. ⌜ outcomeIn (r .status) ≡ outcomeIn (openColdBoot (now (image .entry)) (bootOf (now (digest .entry)) (now (secret .entry))) .status) ⌝ }
 {
     if image.len() != IMAGE_WORDS {
-        return boot_refused(1);
+        return boot_refused(WRONG_IMAGE);
     }
     if !inputs_ok(digest, secret) {
-        return boot_refused(6);
+        return boot_refused(WRONG_INPUTS);
     }
     let work = cold_work(digest, secret);
     boot_ready(work, Outcome::Cold)
+}
+
+// Boots an image cold: opens the boot and makes all its stores. Refused, it stores nothing.
+pub fn boot_cold(image: &mut [u32], digest: &[u8], secret: &[u8]) -> u32
+    ensures { λ r. ⌜ r ≡ bootNumber (openColdBoot (now (image .entry)) (bootOf (now (digest .entry)) (now (secret .entry))) .status) ⌝ }
+    ensures { λ r. ⌜ now (image .exit) ≡ coldBooted (now (image .entry)) (bootOf (now (digest .entry)) (now (secret .entry))) ⌝ }
+{
+    let booted = open_cold_boot(image, digest, secret);
+    let status = booted.status;
+    let BootStatus::Ready(_) = status else {
+        return boot_number(status);
+    };
+    let work = booted.work;
+    run_all(work, image);
+    0
 }

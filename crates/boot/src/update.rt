@@ -4,37 +4,45 @@ ghost use mathlib.Core.List.{[]};
 ghost use Prim.Native.Nat.{_≤_};
 ghost use lib.ListN.{length};
 ghost use Rattle.layout.specs.Sizes.{imageWords, nodeCount};
-ghost use Rattle.tree.specs.Nodes.{rootOf};
-ghost use Rattle.opening.specs.Works.{updateWork};
-ghost use Rattle.opening.specs.Openings.{rootMatches, intact, openUpdateBoot};
+ghost use Rattle.tree.specs.Tree.{rootIn};
+ghost use Rattle.tree.specs.Nodes.{treeIn};
+ghost use Rattle.opening.specs.Tasks.{bootOf, update};
+ghost use Rattle.opening.specs.Works.{workAt};
+ghost use Rattle.opening.specs.Openings.{bootNumber, outcomeIn, rootMatches, intact, openUpdateBoot};
 use crate::inputs::inputs_ok;
-use layout::ANSWER_MAX;
+use layout::ATTESTATION_AT;
 use layout::CUMULATIVE_AT;
 use layout::CURRENT_AT;
 use layout::IMAGE_WORDS;
+use layout::MARK_AT;
 use layout::NODE_WORDS;
 use layout::NODES_AT;
 use layout::PCR3_AT;
 use layout::REGISTER_WORDS;
 use layout::image::word;
 use layout::little_endian::pack;
+use layout::refusals::WRONG_IMAGE;
+use layout::refusals::WRONG_INPUTS;
+use layout::strings::bytes_in;
+use layout::strings::bytes_of;
 use opening::Booted;
 use opening::Outcome;
-use opening::values::bytes_in;
-use opening::values::bytes_of;
-use opening::values::row_of;
-use opening::works::bare_work;
 use opening::works::boot_ready;
 use opening::works::boot_refused;
 use sha384::digest::extend;
 use tree::formed::well_formed;
 use tree::index::root_index;
+use tree::row::measurements_row;
 use work::Kind;
 use work::Work;
+use work::make::Values;
+use work::make::bare_work;
+use work::make::new_work;
+use work::make::no_answer;
 
 // The root's current measurement equals PCR3, word for word.
 fn root_matches(image: &[u32], root: usize) -> bool
-    requires { ⌜ (root ≡ rootOf (now image)) × (root ≤ nodeCount) ⌝ }
+    requires { ⌜ (root ≡ rootIn nodeCount (treeIn (now image))) × (root ≤ nodeCount) ⌝ }
     ensures { λ r. ⌜ r ≡ rootMatches (now (image .entry)) ⌝ }
 {
     let at = NODES_AT + NODE_WORDS * root;
@@ -50,10 +58,10 @@ fn is_intact(image: &[u32]) -> bool
     requires { ⌜ length (now image) ≡ imageWords ⌝ }
     ensures { λ r. ⌜ r ≡ intact (now (image .entry)) ⌝ }
 {
-    if image[0] != 1 {
+    if image[MARK_AT] != 1 {
         return false;
     }
-    if image[1] != 1 {
+    if image[ATTESTATION_AT] != 1 {
         return false;
     }
     if !well_formed(image) {
@@ -64,7 +72,7 @@ fn is_intact(image: &[u32]) -> bool
 
 fn update_work(image: &[u32], digest: &[u8], secret: &[u8]) -> Work
     requires { ⌜ length (now digest) ≡ 48 ⌝ }
-    ensures { λ r. ⌜ r ≡ updateWork (now (image .entry)) (now (digest .entry)) (now (secret .entry)) [] ⌝ }
+    ensures { λ r. ⌜ r ≡ workAt (now (image .entry)) (update (bootOf (now (digest .entry)) (now (secret .entry)))) [] ⌝ }
 {
     let root = root_index(image);
     let d = bytes_of(digest, 0);
@@ -74,29 +82,28 @@ fn update_work(image: &[u32], digest: &[u8], secret: &[u8]) -> Work
     let cumulative = extend(before, journey);
     let register = pack(&current, 0);
     let words = pack(&journey, 0);
-    let node = row_of(0, 0, journey, cumulative, 0, 0);
+    let node = measurements_row(journey, cumulative);
     let kept = pack(secret, 0);
-    Work {
-        kind: Kind::Update(root),
-        position: 0,
+    let values = Values {
         register,
         journey: words,
         node,
         secret: kept,
-        answer: [0u8; ANSWER_MAX],
-        answer_len: 0,
-    }
+    };
+    new_work(Kind::Update(root), values, no_answer())
 }
 
 // Opens an update boot: it reads the image and changes nothing.
 pub fn open_update_boot(image: &[u32], digest: &[u8], secret: &[u8], verdict: bool) -> Booted
-    ensures { λ r. ⌜ r ≡ openUpdateBoot (now (image .entry)) (now (digest .entry)) (now (secret .entry)) verdict ⌝ }
+    ensures { λ r. ⌜ r ≡ openUpdateBoot (now (image .entry)) (bootOf (now (digest .entry)) (now (secret .entry))) verdict ⌝ }
+    ensures { λ r. ⌜ bootNumber (r .status) ≡ bootNumber (openUpdateBoot (now (image .entry)) (bootOf (now (digest .entry)) (now (secret .entry))) verdict .status) ⌝ }
+    ensures { λ r. ⌜ outcomeIn (r .status) ≡ outcomeIn (openUpdateBoot (now (image .entry)) (bootOf (now (digest .entry)) (now (secret .entry))) verdict .status) ⌝ }
 {
     if image.len() != IMAGE_WORDS {
-        return boot_refused(1);
+        return boot_refused(WRONG_IMAGE);
     }
     if !inputs_ok(digest, secret) {
-        return boot_refused(6);
+        return boot_refused(WRONG_INPUTS);
     }
     if !is_intact(image) {
         let work = bare_work(Kind::Disabling);

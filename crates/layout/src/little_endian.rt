@@ -4,7 +4,7 @@ ghost use mathlib.Core.Path.{_≡_};
 ghost use Prim.Native.Nat.{_+_, _*_, _<_};
 ghost use lib.ListN.{getD};
 ghost use Rattle.layout.specs.Sizes.{registerWords};
-ghost use Rattle.layout.specs.Words.{le16, le32, byteOf, wordsAt, bytes48};
+ghost use Rattle.layout.specs.Words.{le16, le32, byteOf, bytes4, wordsAt, bytes48};
 use crate::REGISTER_WORDS;
 
 fn wide(b: u8) -> u32
@@ -86,6 +86,18 @@ fn byte_of(w: u32, j: usize) -> u8
         2 => (w / 65536 % 256) as u8,
         _ => (w / 16777216 % 256) as u8,
     }
+}
+
+// The four bytes of a number.
+pub fn four(n: u32) -> [u8; 4]
+    ensures { λ r. ⌜ r ≡ bytes4 n ⌝ }
+{
+    [
+        (n % 256) as u8,
+        (n / 256 % 256) as u8,
+        (n / 65536 % 256) as u8,
+        (n / 16777216 % 256) as u8,
+    ]
 }
 
 // The 48 bytes of twelve words.

@@ -43,6 +43,11 @@ outcomeNumber Kept = 1
 outcomeNumber Updated = 2
 outcomeNumber Disabled = 3
 
+-- the number of a boot's outcome; none where it was refused
+abbrev pub outcomeIn : BootStatus → Option ℕ
+outcomeIn (bootStatus.Ready o) = some (outcomeNumber o)
+outcomeIn (bootStatus.Refused n) = none
+
 -- ---- from a ruling to the answer
 
 -- what a boot's task comes to (no request's task is opened as a boot)

@@ -1,12 +1,11 @@
+-- The callees, put together; the first 48 bytes of an input of 48 are all of it.
 use native.Mathlib.Omega.{arith}
-use mathlib.Core.Path.{_≡_, refl, _∙_}
-use Prim.Native.Nat.{ℕ, _≤_}
-use mathlib.Core.List.{List}
-use lib.ListN.{length, take, drop}
+use mathlib.Core.Path.{_≡_, _∙_}
 use lib.Seq.{take-all}
 use Rattle.layout.specs.Words.{zeros, part}
 use Rattle.layout.proofs.Packing.{part-within}
-use Rattle.opening.specs.Works.{coldWork}
+use Rattle.work.specs.Made.{workWith}
+use Rattle.opening.specs.Works.{workAt}
 use borrow.Author.Needs.{needs}
 use Rattle.boot.proofs.cold.cold_work.Statement.{statement}
 use Rattle.boot.proofs.cold.cold_work.Tie as tie
@@ -35,13 +34,19 @@ node-row-requires c κs = search needs
 pack-requires-2 : tie.Need-pack-requires-2
 pack-requires-2 c κs = search needs
 
+no-answer-requires : tie.Need-no-answer-requires
+no-answer-requires c κs = search needs
+
+new-work-requires : tie.Need-new-work-requires
+new-work-requires c κs = search needs
+
 returns : tie.Need-returns
-unfolding coldWork zeros
+unfolding workAt workWith zeros
 returns c =
-    let g = c .before .before .before .before .before .before .before .before .before in
+    let g = c .before .before .before .before .before .before .before .before .before .before .before in
     let d = g .args .digest .now in
     let digest : part 48 d 0 ≡ d = part-within 48 d 0 (omega (arith, g .pre)) ∙ take-all 48 d (omega (arith, g .pre)) in
-    rw (c .pack2 .ensures, c .before .node-row .ensures, c .before .before .pack .ensures, c .before .before .before .before .extend2 .ensures, c .before .before .before .before .before .extend .ensures, c .before .before .before .before .before .before .bytes-of .ensures, digest)
+    rw (c .new-work .ensures, c .before .no-answer .ensures, c .before .before .pack2 .ensures, c .before .before .before .node-row .ensures, c .before .before .before .before .pack .ensures, c .before .before .before .before .before .before .extend2 .ensures, c .before .before .before .before .before .before .before .extend .ensures, c .before .before .before .before .before .before .before .before .bytes-of .ensures, digest)
 
 pub cold-work-spec : {M : Type 1} → statement M
 cold-work-spec =
@@ -55,4 +60,6 @@ cold-work-spec =
     cast-node-row
     node-row-requires
     pack-requires-2
+    no-answer-requires
+    new-work-requires
     returns)

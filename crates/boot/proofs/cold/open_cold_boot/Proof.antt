@@ -1,10 +1,14 @@
+-- Each exit is one case of the order.
 use mathlib.Core.Path.{_≡_}
 use lib.ListN.{length}
 use borrow.Author.Tests.{eq-eqb, ne-eqb}
 use Rattle.layout.specs.Sizes.{imageWords}
 use Rattle.layout.proofs.Cases.{told-no, told-yes}
+use Rattle.work.specs.Made.{workWith}
+use Rattle.opening.specs.Tasks.{bootOf}
 use Rattle.opening.specs.Works.{workAt}
 use Rattle.opening.specs.Openings.{openColdBoot}
+use Rattle.opening.proofs.Told.{booted-told}
 use Rattle.boot.proofs.Sizes.{digest-length}
 use borrow.Author.Needs.{needs}
 use Rattle.boot.proofs.cold.open_cold_boot.Statement.{statement}
@@ -14,8 +18,11 @@ boot-refused-requires : tie.Need-boot-refused-requires
 boot-refused-requires c κs = search needs
 
 returns : tie.Need-returns
-unfolding openColdBoot workAt
-returns c = rw (ne-eqb (length (c .before .before .before .before .before .args .image .now)) imageWords (c .before .if1 .taken)) (c .boot-refused .ensures)
+unfolding openColdBoot workAt workWith
+returns c =
+    let a = c .before .before .before .before .before .args in
+    booted-told (c .boot-refused .result) (openColdBoot (a .image .now) (bootOf (a .digest .now) (a .secret .now)))
+    (rw (ne-eqb (length (a .image .now)) imageWords (c .before .if1 .taken)) (c .boot-refused .ensures))
 
 inputs-ok-requires : tie.Need-inputs-ok-requires
 inputs-ok-requires c κs = search needs
@@ -24,18 +31,24 @@ boot-refused-requires-2 : tie.Need-boot-refused-requires-2
 boot-refused-requires-2 c κs = search needs
 
 returns-2 : tie.Need-returns-2
-unfolding openColdBoot workAt
-returns-2 c = rw (eq-eqb (length (c .before .before .before .before .before .before .before .args .image .now)) imageWords (c .before .before .before .if1 .left), told-no (c .before .before .inputs-ok .ensures) (c .before .if2 .taken)) (c .boot-refused2 .ensures)
+unfolding openColdBoot workAt workWith
+returns-2 c =
+    let a = c .before .before .before .before .before .before .before .args in
+    booted-told (c .boot-refused2 .result) (openColdBoot (a .image .now) (bootOf (a .digest .now) (a .secret .now)))
+    (rw (eq-eqb (length (a .image .now)) imageWords (c .before .before .before .if1 .left), told-no (c .before .before .inputs-ok .ensures) (c .before .if2 .taken)) (c .boot-refused2 .ensures))
 
 cold-work-requires : tie.Need-cold-work-requires
-cold-work-requires c κs = digest-length _ _ (told-yes (c .before .inputs-ok .ensures) (c .if2 .left))
+cold-work-requires c κs = digest-length _ (told-yes (c .before .inputs-ok .ensures) (c .if2 .left))
 
 boot-ready-requires : tie.Need-boot-ready-requires
 boot-ready-requires c κs = search needs
 
 returns-3 : tie.Need-returns-3
-unfolding openColdBoot workAt
-returns-3 c = rw (eq-eqb (length (c .before .before .before .before .before .before .before .before .args .image .now)) imageWords (c .before .before .before .before .if1 .left), told-yes (c .before .before .before .inputs-ok .ensures) (c .before .before .if2 .left)) (rw (c .before .cold-work .ensures) at (c .boot-ready .ensures))
+unfolding openColdBoot workAt workWith
+returns-3 c =
+    let a = c .before .before .before .before .before .before .before .before .args in
+    booted-told (c .boot-ready .result) (openColdBoot (a .image .now) (bootOf (a .digest .now) (a .secret .now)))
+    (rw (eq-eqb (length (a .image .now)) imageWords (c .before .before .before .before .if1 .left), told-yes (c .before .before .before .inputs-ok .ensures) (c .before .before .if2 .left)) (rw (c .before .cold-work .ensures) at (c .boot-ready .ensures)))
 
 pub open-cold-boot-spec : {M : Type 1} → statement M
 open-cold-boot-spec =

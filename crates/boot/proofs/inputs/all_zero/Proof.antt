@@ -1,3 +1,4 @@
+-- A loop over the bytes: `all-more` is a zero byte, `all-fails` another.
 use native.Mathlib.Omega.{arith}
 use borrow.Author.Needs.{needs}
 use Prim.Native.Nat.{ℕ, _-_, _≤_}

@@ -1,7 +1,8 @@
+-- The three tests, in their order.
 use Rattle.layout.proofs.Cases.{cases}
 use borrow.Author.Tests.{eq-eqb, ne-eqb}
 use lib.ListN.{length}
-use Rattle.opening.specs.Tasks.{inputsOk}
+use Rattle.opening.specs.Rules.{inputsOk}
 use borrow.Author.Needs.{needs}
 use Rattle.boot.proofs.inputs.inputs_ok.Statement.{statement}
 use Rattle.boot.proofs.inputs.inputs_ok.Tie as tie

@@ -1,3 +1,4 @@
+-- The four tests, in their order.
 use mathlib.Core.Path.{_≡_}
 use lib.ListN.{getD}
 use borrow.Author.Tests.{eq-eqb, ne-eqb}

@@ -1,10 +1,14 @@
+-- Each exit is one case of the order, then of the task.
 use mathlib.Core.Path.{_≡_}
 use lib.ListN.{length}
 use borrow.Author.Tests.{eq-eqb, ne-eqb, not-true, not-false}
 use Rattle.layout.specs.Sizes.{imageWords}
 use Rattle.layout.proofs.Cases.{told-no, told-yes}
+use Rattle.work.specs.Made.{workWith}
+use Rattle.opening.specs.Tasks.{bootOf}
 use Rattle.opening.specs.Works.{workAt}
 use Rattle.opening.specs.Openings.{openUpdateBoot}
+use Rattle.opening.proofs.Told.{booted-told}
 use Rattle.boot.proofs.Sizes.{digest-length}
 use borrow.Author.Needs.{needs}
 use Rattle.boot.proofs.update.open_update_boot.Statement.{statement}
@@ -15,7 +19,10 @@ boot-refused-requires c κs = search needs
 
 returns : tie.Need-returns
 unfolding openUpdateBoot workAt
-returns c = rw (ne-eqb (length (c .before .before .before .before .before .args .image .now)) imageWords (c .before .if1 .taken)) (c .boot-refused .ensures)
+returns c =
+    let a = c .before .before .before .before .before .args in
+    booted-told (c .boot-refused .result) (openUpdateBoot (a .image .now) (bootOf (a .digest .now) (a .secret .now)) (a .verdict))
+    (rw (ne-eqb (length (a .image .now)) imageWords (c .before .if1 .taken)) (c .boot-refused .ensures))
 
 inputs-ok-requires : tie.Need-inputs-ok-requires
 inputs-ok-requires c κs = search needs
@@ -25,7 +32,10 @@ boot-refused-requires-2 c κs = search needs
 
 returns-2 : tie.Need-returns-2
 unfolding openUpdateBoot workAt
-returns-2 c = rw (eq-eqb (length (c .before .before .before .before .before .before .before .args .image .now)) imageWords (c .before .before .before .if1 .left), told-no (c .before .before .inputs-ok .ensures) (c .before .if2 .taken)) (c .boot-refused2 .ensures)
+returns-2 c =
+    let a = c .before .before .before .before .before .before .before .args in
+    booted-told (c .boot-refused2 .result) (openUpdateBoot (a .image .now) (bootOf (a .digest .now) (a .secret .now)) (a .verdict))
+    (rw (eq-eqb (length (a .image .now)) imageWords (c .before .before .before .if1 .left), told-no (c .before .before .inputs-ok .ensures) (c .before .if2 .taken)) (c .boot-refused2 .ensures))
 
 is-intact-requires : tie.Need-is-intact-requires
 is-intact-requires c κs = search needs
@@ -38,7 +48,10 @@ boot-ready-requires c κs = search needs
 
 returns-3 : tie.Need-returns-3
 unfolding openUpdateBoot workAt
-returns-3 c = rw (eq-eqb (length (c .before .before .before .before .before .before .before .before .before .before .args .image .now)) imageWords (c .before .before .before .before .before .before .if1 .left), told-yes (c .before .before .before .before .before .inputs-ok .ensures) (c .before .before .before .before .if2 .left), told-no (c .before .before .before .is-intact .ensures) (c .before .before .if3 .taken)) (rw (c .before .bare-work .ensures) at (c .boot-ready .ensures))
+returns-3 c =
+    let a = c .before .before .before .before .before .before .before .before .before .before .args in
+    booted-told (c .boot-ready .result) (openUpdateBoot (a .image .now) (bootOf (a .digest .now) (a .secret .now)) (a .verdict))
+    (rw (eq-eqb (length (a .image .now)) imageWords (c .before .before .before .before .before .before .if1 .left), told-yes (c .before .before .before .before .before .inputs-ok .ensures) (c .before .before .before .before .if2 .left), told-no (c .before .before .before .is-intact .ensures) (c .before .before .if3 .taken)) (rw (c .before .bare-work .ensures) at (c .boot-ready .ensures)))
 
 bare-work-requires-2 : tie.Need-bare-work-requires-2
 bare-work-requires-2 c κs = search needs
@@ -48,17 +61,23 @@ boot-ready-requires-2 c κs = search needs
 
 returns-4 : tie.Need-returns-4
 unfolding openUpdateBoot workAt
-returns-4 c = rw (eq-eqb (length (c .before .before .before .before .before .before .before .before .before .before .before .args .image .now)) imageWords (c .before .before .before .before .before .before .before .if1 .left), told-yes (c .before .before .before .before .before .before .inputs-ok .ensures) (c .before .before .before .before .before .if2 .left), told-yes (c .before .before .before .before .is-intact .ensures) (c .before .before .before .if3 .left), not-true (c .before .before .before .before .before .before .before .before .before .before .before .args .verdict) (c .before .before .if4 .taken)) (rw (c .before .bare-work2 .ensures) at (c .boot-ready2 .ensures))
+returns-4 c =
+    let a = c .before .before .before .before .before .before .before .before .before .before .before .args in
+    booted-told (c .boot-ready2 .result) (openUpdateBoot (a .image .now) (bootOf (a .digest .now) (a .secret .now)) (a .verdict))
+    (rw (eq-eqb (length (a .image .now)) imageWords (c .before .before .before .before .before .before .before .if1 .left), told-yes (c .before .before .before .before .before .before .inputs-ok .ensures) (c .before .before .before .before .before .if2 .left), told-yes (c .before .before .before .before .is-intact .ensures) (c .before .before .before .if3 .left), not-true (a .verdict) (c .before .before .if4 .taken)) (rw (c .before .bare-work2 .ensures) at (c .boot-ready2 .ensures)))
 
 update-work-requires : tie.Need-update-work-requires
-update-work-requires c κs = digest-length _ _ (told-yes (c .before .before .before .before .inputs-ok .ensures) (c .before .before .before .if2 .left))
+update-work-requires c κs = digest-length _ (told-yes (c .before .before .before .before .inputs-ok .ensures) (c .before .before .before .if2 .left))
 
 boot-ready-requires-3 : tie.Need-boot-ready-requires-3
 boot-ready-requires-3 c κs = search needs
 
 returns-5 : tie.Need-returns-5
 unfolding openUpdateBoot workAt
-returns-5 c = rw (eq-eqb (length (c .before .before .before .before .before .before .before .before .before .before .before .args .image .now)) imageWords (c .before .before .before .before .before .before .before .if1 .left), told-yes (c .before .before .before .before .before .before .inputs-ok .ensures) (c .before .before .before .before .before .if2 .left), told-yes (c .before .before .before .before .is-intact .ensures) (c .before .before .before .if3 .left), not-false (c .before .before .before .before .before .before .before .before .before .before .before .args .verdict) (c .before .before .if4 .left)) (rw (c .before .update-work .ensures) at (c .boot-ready3 .ensures))
+returns-5 c =
+    let a = c .before .before .before .before .before .before .before .before .before .before .before .args in
+    booted-told (c .boot-ready3 .result) (openUpdateBoot (a .image .now) (bootOf (a .digest .now) (a .secret .now)) (a .verdict))
+    (rw (eq-eqb (length (a .image .now)) imageWords (c .before .before .before .before .before .before .before .if1 .left), told-yes (c .before .before .before .before .before .before .inputs-ok .ensures) (c .before .before .before .before .before .if2 .left), told-yes (c .before .before .before .before .is-intact .ensures) (c .before .before .before .if3 .left), not-false (a .verdict) (c .before .before .if4 .left)) (rw (c .before .update-work .ensures) at (c .boot-ready3 .ensures)))
 
 pub open-update-boot-spec : {M : Type 1} → statement M
 open-update-boot-spec =

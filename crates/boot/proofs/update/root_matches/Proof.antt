@@ -1,3 +1,4 @@
+-- A loop over the twelve words: `all-more` is a word that matches, `all-fails` one that does not.
 use native.Mathlib.Omega.{arith}
 use borrow.Author.Needs.{needs}
 use Prim.Native.Nat.{ℕ, _+_, _-_, _≤_}
@@ -10,7 +11,7 @@ use borrow.Author.Tests.{eq-eqb, ne-eqb}
 use Rattle.layout.specs.Sizes.{registerWords, registerAt, journeyRegister, nodeAt, currentAt}
 use Rattle.layout.specs.Below.{allBelow}
 use Rattle.layout.proofs.Bounded.{all-none, all-more, all-fails}
-use Rattle.tree.specs.Nodes.{word, rootOf}
+use Rattle.tree.specs.Nodes.{word}
 use Rattle.opening.specs.Openings.{rootMatches}
 use Rattle.boot.proofs.update.root_matches.Statement.{statement}
 use Rattle.boot.proofs.update.root_matches.Tie as tie

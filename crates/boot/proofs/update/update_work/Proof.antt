@@ -1,11 +1,11 @@
+-- The callees, put together; the first 48 bytes of an input of 48 are all of it.
 use native.Mathlib.Omega.{arith}
-use mathlib.Core.Path.{_≡_, refl, _∙_}
-use Prim.Native.Nat.{ℕ, _≤_}
-use lib.ListN.{length, take, drop}
+use mathlib.Core.Path.{_≡_, _∙_}
 use lib.Seq.{take-all}
 use Rattle.layout.specs.Words.{zeros, part}
 use Rattle.layout.proofs.Packing.{part-within}
-use Rattle.opening.specs.Works.{registerIn, updateWork}
+use Rattle.work.specs.Made.{workWith}
+use Rattle.opening.specs.Works.{registerIn, workAt}
 use borrow.Author.Needs.{needs}
 use Rattle.boot.proofs.update.update_work.Statement.{statement}
 use Rattle.boot.proofs.update.update_work.Tie as tie
@@ -52,19 +52,25 @@ slice-aggregate-pack-2 c = search needs
 pack-requires-2 : tie.Need-pack-requires-2
 pack-requires-2 c κs = search needs
 
-row-of-requires : tie.Need-row-of-requires
-row-of-requires c κs = search needs
+measurements-row-requires : tie.Need-measurements-row-requires
+measurements-row-requires c κs = search needs
 
 pack-requires-3 : tie.Need-pack-requires-3
 pack-requires-3 c κs = search needs
 
+no-answer-requires : tie.Need-no-answer-requires
+no-answer-requires c κs = search needs
+
+new-work-requires : tie.Need-new-work-requires
+new-work-requires c κs = search needs
+
 returns : tie.Need-returns
-unfolding registerIn updateWork zeros
+unfolding workAt workWith registerIn zeros
 returns c =
-    let g = c .before .before .before .before .before .before .before .before .before .before .before .before .before .before .before .before in
+    let g = c .before .before .before .before .before .before .before .before .before .before .before .before .before .before .before .before .before .before in
     let d = g .args .digest .now in
     let digest : part 48 d 0 ≡ d = part-within 48 d 0 (omega (arith, g .pre)) ∙ take-all 48 d (omega (arith, g .pre)) in
-    rw (c .pack3 .ensures, c .before .row-of .ensures, c .before .before .pack2 .ensures, c .before .before .before .before .pack .ensures, c .before .before .before .before .before .before .extend3 .ensures, c .before .before .before .before .before .before .before .before .extend2 .ensures, c .before .before .before .before .before .before .before .before .before .before .extend .ensures, c .before .before .before .before .before .before .before .bytes-in2 .ensures, c .before .before .before .before .before .before .before .before .before .bytes-in .ensures, c .before .before .before .before .before .before .before .before .before .before .before .bytes-of .ensures, digest, c .before .before .before .before .before .before .before .before .before .before .before .before .root-index .ensures .0)
+    rw (c .new-work .ensures, c .before .no-answer .ensures, c .before .before .pack3 .ensures, c .before .before .before .measurements-row .ensures, c .before .before .before .before .pack2 .ensures, c .before .before .before .before .before .before .pack .ensures, c .before .before .before .before .before .before .before .before .extend3 .ensures, c .before .before .before .before .before .before .before .before .before .before .extend2 .ensures, c .before .before .before .before .before .before .before .before .before .before .before .before .extend .ensures, c .before .before .before .before .before .before .before .before .before .bytes-in2 .ensures, c .before .before .before .before .before .before .before .before .before .before .before .bytes-in .ensures, c .before .before .before .before .before .before .before .before .before .before .before .before .before .bytes-of .ensures, digest, c .before .before .before .before .before .before .before .before .before .before .before .before .before .before .root-index .ensures .0)
 
 pub update-work-spec : {M : Type 1} → statement M
 update-work-spec =
@@ -84,6 +90,8 @@ update-work-spec =
     pack-requires
     slice-aggregate-pack-2
     pack-requires-2
-    row-of-requires
+    measurements-row-requires
     pack-requires-3
+    no-answer-requires
+    new-work-requires
     returns)
