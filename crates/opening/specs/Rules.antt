@@ -152,6 +152,10 @@ requestRules v r =
     let c = commandOf (r .code) in
     refuses number.unfinished (not (v .done)) ∷ refuses number.unknownCode (not (c .known)) ∷ commandRules c v r
 
+-- what a command comes to where the mark and the code are fine
+unfoldable pub commandRuling : Command → View → Request → Ruling
+commandRuling c v r = decide (commandRules c v r) (declined r) (served c r)
+
 -- what a request comes to by a list of rules
 abbrev pub requestRuling : List Rule → Request → Ruling
 requestRuling rules r = decide rules (declined r) (served (commandOf (r .code)) r)

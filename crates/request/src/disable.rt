@@ -1,25 +1,27 @@
 // Disable attestation: a disabling, whatever the unit holds.
 ghost use mathlib.Core.Path.{_≡_};
+ghost use mathlib.Core.Bool.{false};
 ghost use mathlib.Core.List.{[]};
-ghost use Rattle.opening.specs.Tasks.{accepted, disableCommand, answerOf};
-ghost use Rattle.opening.specs.Openings.{openedOf};
-ghost use Rattle.request.specs.Screen.{screenOf, orElse};
 ghost use Prim.Native.Nat.{_≤_};
+ghost use Rattle.opening.specs.Tasks.{requestOf};
+ghost use Rattle.opening.specs.Rules.{disableAttestation, disableCode};
+ghost use Rattle.request.specs.Screen.{commandOpened};
 use crate::answer::plain_work;
 use crate::screen::screen;
 use opening::Opened;
 use opening::Status;
+use opening::commands::DISABLE_CODE;
 use opening::works::ready;
 use opening::works::refused;
 use work::Kind;
 
-pub(crate) fn open_disable(bytes: &[u8], n: usize) -> Opened
-    requires { ⌜ 4 ≤ n ⌝ }
-    ensures { λ r. ⌜ r ≡ openedOf [] (orElse (screenOf 0x4453424C (now (bytes .entry)) n) (accepted disableCommand (answerOf 0x4453424C []))) ⌝ }
+pub(crate) fn open_disable(image: &[u32], bytes: &[u8], n: usize) -> Opened
+    requires { ⌜ n ≡ 4 ⌝ }
+    ensures { λ r. ⌜ r ≡ commandOpened disableAttestation (now (image .entry)) (requestOf disableCode (now (bytes .entry)) 0 [] false) ⌝ }
 {
-    let status = screen(0x4453424C, bytes, n);
+    let status = screen(DISABLE_CODE, bytes, n);
     match status {
         Status::Refused(number) => refused(number),
-        Status::Ready => ready(plain_work(Kind::Disabling, 0x4453424C, &bytes[..0])),
+        Status::Ready => ready(plain_work(Kind::Disabling, DISABLE_CODE, &bytes[..0])),
     }
 }

@@ -1,28 +1,39 @@
 // Identity key: X and Y from the handoff table; nothing is stored.
 ghost use mathlib.Core.Path.{_≡_};
-ghost use mathlib.Core.Bool.{not};
-ghost use mathlib.Core.List.{[], _∷_};
-ghost use Prim.Native.Nat.{_≤_};
-ghost use lib.ListN.{take, drop};
-ghost use Rattle.opening.specs.Tasks.{accepted, noStores, answerOf, firstRefusal, rule, handoffOk};
-ghost use Rattle.opening.specs.Openings.{openedOf};
-ghost use Rattle.request.specs.Screen.{screenOf, orElse};
+ghost use mathlib.Core.Bool.{false};
+ghost use mathlib.Core.List.{[]};
+ghost use Rattle.opening.specs.Tasks.{requestOf};
+ghost use Rattle.opening.specs.Rules.{handoffOk, identityKey, identityCode};
+ghost use Rattle.request.specs.Screen.{commandOpened};
 use crate::answer::plain_work;
 use crate::screen::screen;
 use layout::little_endian::read16;
 use layout::little_endian::read32;
+use layout::refusals::WRONG_TABLE;
 use opening::Opened;
 use opening::Status;
+use opening::commands::IDENTITY_CODE;
 use opening::works::ready;
 use opening::works::refused;
 use work::Kind;
 
+// The handoff table: its bytes, its marker, its major version, and where the key is.
+const TABLE_BYTES: usize = 2048;
+
+const TABLE_MARKER: u32 = 0x54484643;
+
+const TABLE_VERSION: u32 = 1;
+
+const KEY_START: usize = 304;
+
+const KEY_END: usize = 400;
+
 fn handoff_ok(h: &[u8]) -> bool
     ensures { λ r. ⌜ r ≡ handoffOk (now (h .entry)) ⌝ }
 {
-    if h.len() == 2048 {
-        if read32(h, 0) == 0x54484643 {
-            return read16(h, 4) == 1;
+    if h.len() == TABLE_BYTES {
+        if read32(h, 0) == TABLE_MARKER {
+            return read16(h, 4) == TABLE_VERSION;
         } else {
             return false;
         }
@@ -30,18 +41,18 @@ fn handoff_ok(h: &[u8]) -> bool
     false
 }
 
-pub(crate) fn open_identity(bytes: &[u8], n: usize, handoff: &[u8]) -> Opened
-    requires { ⌜ 4 ≤ n ⌝ }
-    ensures { λ r. ⌜ r ≡ openedOf [] (orElse (screenOf 0x49444549 (now (bytes .entry)) n) (firstRefusal (rule (not (handoffOk (now (handoff .entry)))) 5 ∷ []) (accepted noStores (answerOf 0x49444549 (take 96 (drop 304 (now (handoff .entry)))))))) ⌝ }
+pub(crate) fn open_identity(image: &[u32], bytes: &[u8], n: usize, handoff: &[u8]) -> Opened
+    requires { ⌜ n ≡ 4 ⌝ }
+    ensures { λ r. ⌜ r ≡ commandOpened identityKey (now (image .entry)) (requestOf identityCode (now (bytes .entry)) 0 (now (handoff .entry)) false) ⌝ }
 {
-    let status = screen(0x49444549, bytes, n);
+    let status = screen(IDENTITY_CODE, bytes, n);
     match status {
         Status::Refused(number) => refused(number),
         Status::Ready => {
             if handoff_ok(handoff) {
-                ready(plain_work(Kind::Nothing, 0x49444549, &handoff[304..400]))
+                ready(plain_work(Kind::Nothing, IDENTITY_CODE, &handoff[KEY_START..KEY_END]))
             } else {
-                refused(5)
+                refused(WRONG_TABLE)
             }
         }
     }

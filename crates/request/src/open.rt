@@ -1,13 +1,25 @@
 // The entry: the order of the refusals, and a match over command codes.
 ghost use mathlib.Core.Path.{_≡_};
 ghost use Rattle.opening.specs.Tasks.{requestOf};
-ghost use Rattle.opening.specs.Openings.{openRequest};
+ghost use Rattle.opening.specs.Openings.{statusNumber, openRequest};
 use crate::disable::open_disable;
 use crate::identity::open_identity;
 use crate::stash::open_stash;
 use crate::verify::open_verify;
 use layout::IMAGE_WORDS;
+use layout::MARK_AT;
+use layout::refusals::UNFINISHED;
+use layout::refusals::UNKNOWN_CODE;
+use layout::refusals::WRONG_IMAGE;
 use opening::Opened;
+use opening::commands::DISABLE_CODE;
+use opening::commands::DISABLE_LENGTH;
+use opening::commands::IDENTITY_CODE;
+use opening::commands::IDENTITY_LENGTH;
+use opening::commands::STASH_CODE;
+use opening::commands::STASH_LENGTH;
+use opening::commands::VERIFY_CODE;
+use opening::commands::VERIFY_LENGTH;
 use opening::works::refused;
 
 // Opens a request on an image: it reads the image and changes nothing.
@@ -20,18 +32,19 @@ pub fn open_request(
     verdict: bool,
 ) -> Opened
     ensures { λ r. ⌜ r ≡ openRequest (now (image .entry)) (requestOf code (now (bytes .entry)) caller (now (handoff .entry)) verdict) ⌝ }
+    ensures { λ r. ⌜ statusNumber (r .status) ≡ statusNumber (openRequest (now (image .entry)) (requestOf code (now (bytes .entry)) caller (now (handoff .entry)) verdict) .status) ⌝ }
 {
     if image.len() != IMAGE_WORDS {
-        return refused(1);
+        return refused(WRONG_IMAGE);
     }
-    if image[0] != 1 {
-        return refused(2);
+    if image[MARK_AT] != 1 {
+        return refused(UNFINISHED);
     }
     match code {
-        0x4D454153 => return open_stash(image, bytes, 60, caller),
-        0x4453424C => return open_disable(bytes, 4),
-        0x49444549 => return open_identity(bytes, 4, handoff),
-        0x53494756 => return open_verify(bytes, 196, verdict),
-        _ => return refused(3),
+        STASH_CODE => return open_stash(image, bytes, STASH_LENGTH, caller),
+        DISABLE_CODE => return open_disable(image, bytes, DISABLE_LENGTH),
+        IDENTITY_CODE => return open_identity(image, bytes, IDENTITY_LENGTH, handoff),
+        VERIFY_CODE => return open_verify(image, bytes, VERIFY_LENGTH, verdict),
+        _ => return refused(UNKNOWN_CODE),
     }
 }

@@ -2,9 +2,11 @@
 ghost use mathlib.Core.Path.{_≡_};
 ghost use Prim.Native.Nat.{_≤_};
 ghost use lib.ListN.{length};
-ghost use Rattle.opening.specs.Tasks.{badChecksum};
+ghost use Rattle.opening.specs.Rules.{badChecksum};
 ghost use Rattle.request.specs.Screen.{screenOf};
 use layout::little_endian::read32;
+use layout::refusals::BAD_CHECKSUM;
+use layout::refusals::WRONG_LENGTH;
 use opening::Status;
 
 fn bad_checksum(code: u32, bytes: &[u8]) -> bool
@@ -20,10 +22,10 @@ pub(crate) fn screen(code: u32, bytes: &[u8], n: usize) -> Status
 {
     if bytes.len() == n {
         if bad_checksum(code, bytes) {
-            return Status::Refused(0x4243484B);
+            return Status::Refused(BAD_CHECKSUM);
         } else {
             return Status::Ready;
         }
     }
-    Status::Refused(4)
+    Status::Refused(WRONG_LENGTH)
 }

@@ -6,93 +6,104 @@ ghost use Prim.Native.Nat.{_≤_, _<_};
 ghost use lib.ListN.{length};
 ghost use Rattle.layout.specs.Sizes.{imageWords, nodeCount};
 ghost use Rattle.layout.specs.Words.{bytes4};
-ghost use Rattle.tree.specs.Nodes.{freeOf};
-ghost use Rattle.opening.specs.Tasks.{requestOf, answerOf, stashType, stashDigest, firstRefusal, stashMeasurement, commandRules, requestAccepted};
-ghost use Rattle.opening.specs.Works.{plainWork, stashWork};
-ghost use Rattle.opening.specs.Openings.{openedOf, viewIn};
-ghost use Rattle.request.specs.Screen.{screenOf, orElse};
+ghost use Rattle.tree.specs.Tree.{lowestFree};
+ghost use Rattle.tree.specs.Nodes.{treeIn};
+ghost use Rattle.work.specs.Made.{plainWork};
+ghost use Rattle.opening.specs.Tasks.{requestOf, stash};
+ghost use Rattle.opening.specs.Rules.{answerOf, measurementIn, stashMeasurement, stashCode};
+ghost use Rattle.opening.specs.Works.{workAt};
+ghost use Rattle.request.specs.Screen.{commandOpened, screenedOpened};
 use crate::answer::plain_work;
 use crate::answer::sealed;
 use crate::screen::screen;
+use layout::ATTESTATION_AT;
 use layout::NODES;
 use layout::PCR31_AT;
 use layout::REGISTER_WORDS;
+use layout::little_endian::four;
 use layout::little_endian::pack;
 use layout::little_endian::read32;
+use layout::refusals::DPE_ACCEPTED;
+use layout::refusals::DPE_FULL;
+use layout::refusals::DPE_OFF;
+use layout::refusals::NOT_WELL_FORMED;
+use layout::strings::bytes_in;
+use layout::strings::bytes_of;
 use opening::Opened;
 use opening::Status;
-use opening::values::bytes_in;
-use opening::values::bytes_of;
-use opening::values::node_row;
+use opening::commands::STASH_CODE;
 use opening::works::ready;
 use opening::works::refused;
 use sha384::digest::extend;
 use tree::formed::well_formed;
 use tree::index::free_index;
 use tree::index::holder_index;
+use tree::row::node_row;
 use work::Kind;
 use work::StashAt;
 use work::Work;
+use work::make::Values;
+use work::make::new_work;
+
+// Where the request's fields are.
+const TYPE_FROM: usize = 4;
+
+const DIGEST_FROM: usize = 8;
 
 // The work of a stash at the free node `node`.
 fn stash_work(image: &[u32], bytes: &[u8], caller: u32, node: usize) -> Work
-    requires { ⌜ (length (now bytes) ≡ 60) × (node ≡ freeOf (now image)) ⌝ }
-    ensures { λ r. ⌜ r ≡ stashWork (now (image .entry)) (stashType (now (bytes .entry))) (stashDigest (now (bytes .entry))) caller (answerOf 0x4D454153 (bytes4 0)) ⌝ }
+    requires { ⌜ (length (now bytes) ≡ 60) × (node ≡ lowestFree nodeCount (treeIn (now image))) ⌝ }
+    ensures { λ r. ⌜ r ≡ workAt (now (image .entry)) (stash (measurementIn (requestOf stashCode (now (bytes .entry)) caller [] false))) (answerOf stashCode (bytes4 0)) ⌝ }
 {
     let holder = holder_index(image);
-    let digest = bytes_of(bytes, 8);
+    let digest = bytes_of(bytes, DIGEST_FROM);
     let extended = extend(bytes_in(image, PCR31_AT), digest);
     let cumulative = extend([0u8; 48], digest);
-    let kind = read32(bytes, 4);
+    let kind = read32(bytes, TYPE_FROM);
     let row = node_row(holder as u16, 0, digest, cumulative, kind, caller);
     let register = pack(&extended, 0);
-    let dpe = [0u8; 4];
-    let a = sealed(0x4D454153, &dpe);
-    let answer = a.bytes;
-    Work {
-        kind: Kind::Stash(StashAt { node, holder }),
-        position: 0,
+    let dpe = four(DPE_ACCEPTED);
+    let answer = sealed(STASH_CODE, &dpe);
+    let values = Values {
         register,
         journey: [0u32; REGISTER_WORDS],
         node: row,
         secret: [0u32; REGISTER_WORDS],
-        answer,
-        answer_len: a.len,
-    }
+    };
+    new_work(Kind::Stash(StashAt { node, holder }), values, answer)
 }
 
 // A declined stash: nothing to store, and its dpe result in the answer.
-fn declined(result: u8) -> Work
-    requires { ⌜ result < 3 ⌝ }
-    ensures { λ r. ⌜ r ≡ plainWork Kind.Nothing (answerOf 0x4D454153 (bytes4 result)) ⌝ }
+fn declined(result: u32) -> Work
+    ensures { λ r. ⌜ r ≡ plainWork Kind.Nothing (answerOf stashCode (bytes4 result)) ⌝ }
 {
-    let dpe = [result, 0, 0, 0];
-    plain_work(Kind::Nothing, 0x4D454153, &dpe)
+    let dpe = four(result);
+    plain_work(Kind::Nothing, STASH_CODE, &dpe)
 }
 
 // After length and checksum.
 fn stash_ready(image: &[u32], bytes: &[u8], caller: u32) -> Opened
     requires { ⌜ (length (now image) ≡ imageWords) × (length (now bytes) ≡ 60) ⌝ }
-    ensures { λ r. ⌜ r ≡ openedOf (now (image .entry)) (firstRefusal (commandRules stashMeasurement (viewIn (now (image .entry))) (requestOf 0x4D454153 (now (bytes .entry)) caller [] false)) (requestAccepted (viewIn (now (image .entry))) (requestOf 0x4D454153 (now (bytes .entry)) caller [] false))) ⌝ }
+    ensures { λ r. ⌜ r ≡ screenedOpened stashMeasurement (now (image .entry)) (requestOf stashCode (now (bytes .entry)) caller [] false) ⌝ }
 {
-    if image[1] != 1 {
-        return ready(declined(2));
+    if image[ATTESTATION_AT] != 1 {
+        return ready(declined(DPE_OFF));
     }
     if !well_formed(image) {
-        return refused(11);
+        return refused(NOT_WELL_FORMED);
     }
     let node = free_index(image);
     if node < NODES {
         return ready(stash_work(image, bytes, caller, node));
     }
-    ready(declined(1))
+    ready(declined(DPE_FULL))
 }
 
 pub(crate) fn open_stash(image: &[u32], bytes: &[u8], n: usize, caller: u32) -> Opened
     requires { ⌜ (length (now image) ≡ imageWords) × (n ≡ 60) ⌝ }
-    ensures { λ r. ⌜ r ≡ openedOf (now (image .entry)) (orElse (screenOf 0x4D454153 (now (bytes .entry)) n) (firstRefusal (commandRules stashMeasurement (viewIn (now (image .entry))) (requestOf 0x4D454153 (now (bytes .entry)) caller [] false)) (requestAccepted (viewIn (now (image .entry))) (requestOf 0x4D454153 (now (bytes .entry)) caller [] false)))) ⌝ }
+    ensures { λ r. ⌜ r ≡ commandOpened stashMeasurement (now (image .entry)) (requestOf stashCode (now (bytes .entry)) caller [] false) ⌝ }
 {
-    let status = screen(0x4D454153, bytes, n);
+    let status = screen(STASH_CODE, bytes, n);
     match status {
         Status::Refused(number) => refused(number),
         Status::Ready => stash_ready(image, bytes, caller),

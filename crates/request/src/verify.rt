@@ -1,31 +1,31 @@
 // Verify signature: the verdict is lent as yes or no; nothing is stored.
 ghost use mathlib.Core.Path.{_≡_};
-ghost use mathlib.Core.Bool.{not};
-ghost use mathlib.Core.List.{[], _∷_};
-ghost use Prim.Native.Nat.{_≤_};
-ghost use Rattle.opening.specs.Tasks.{accepted, noStores, answerOf, firstRefusal, rule};
-ghost use Rattle.opening.specs.Openings.{openedOf};
-ghost use Rattle.request.specs.Screen.{screenOf, orElse};
+ghost use mathlib.Core.List.{[]};
+ghost use Rattle.opening.specs.Tasks.{requestOf};
+ghost use Rattle.opening.specs.Rules.{verifySignature, verifyCode};
+ghost use Rattle.request.specs.Screen.{commandOpened};
 use crate::answer::plain_work;
 use crate::screen::screen;
+use layout::refusals::BAD_SIGNATURE;
 use opening::Opened;
 use opening::Status;
+use opening::commands::VERIFY_CODE;
 use opening::works::ready;
 use opening::works::refused;
 use work::Kind;
 
-pub(crate) fn open_verify(bytes: &[u8], n: usize, verdict: bool) -> Opened
-    requires { ⌜ 4 ≤ n ⌝ }
-    ensures { λ r. ⌜ r ≡ openedOf [] (orElse (screenOf 0x53494756 (now (bytes .entry)) n) (firstRefusal (rule (not verdict) 0x42534947 ∷ []) (accepted noStores (answerOf 0x53494756 [])))) ⌝ }
+pub(crate) fn open_verify(image: &[u32], bytes: &[u8], n: usize, verdict: bool) -> Opened
+    requires { ⌜ n ≡ 196 ⌝ }
+    ensures { λ r. ⌜ r ≡ commandOpened verifySignature (now (image .entry)) (requestOf verifyCode (now (bytes .entry)) 0 [] verdict) ⌝ }
 {
-    let status = screen(0x53494756, bytes, n);
+    let status = screen(VERIFY_CODE, bytes, n);
     match status {
         Status::Refused(number) => refused(number),
         Status::Ready => {
             if verdict {
-                ready(plain_work(Kind::Nothing, 0x53494756, &bytes[..0]))
+                ready(plain_work(Kind::Nothing, VERIFY_CODE, &bytes[..0]))
             } else {
-                refused(0x42534947)
+                refused(BAD_SIGNATURE)
             }
         }
     }

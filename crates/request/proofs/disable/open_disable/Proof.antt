@@ -1,5 +1,15 @@
+-- The screen decides (`by-screen`); then the command's own rules.
+use mathlib.Core.Path.{sym, ap, _∙_}
+use mathlib.Core.Bool.{false}
+use mathlib.Core.List.{[]}
+use lib.Dec.{eqb}
+use lib.ListN.{length}
 use Rattle.layout.proofs.Cases.{told}
+use Rattle.opening.specs.Tasks.{requestOf}
+use Rattle.opening.specs.Rules.{disableAttestation, disableCode}
+use Rattle.request.proofs.Order.{by-screen}
 use Rattle.opening.specs.Works.{workAt}
+use Rattle.request.specs.Screen.{screenedOpened}
 use borrow.Author.Needs.{needs}
 use Rattle.request.proofs.disable.open_disable.Statement.{statement}
 use Rattle.request.proofs.disable.open_disable.Tie as tie
@@ -26,11 +36,15 @@ ready-requires : tie.Need-ready-requires
 ready-requires c κs = search needs
 
 returns : tie.Need-returns
-returns c = rw (told (c .before .before .before .before .screen .ensures) (c .before .before .status .given .1)) (c .refused .ensures)
+returns c = 
+    let a = c .before .before .before .before .before .before .before .args in
+    c .refused .ensures ∙ sym (by-screen disableAttestation (a .image .now) (requestOf disableCode (a .bytes .now) 0 [] false) (a .n) _ (ap (eqb (length (a .bytes .now))) (sym (c .before .before .before .before .before .before .before .pre))) (told (c .before .before .before .before .screen .ensures) (c .before .before .status .given .1)))
 
 returns-2 : tie.Need-returns-2
-unfolding workAt
-returns-2 c = rw (told (c .before .before .before .before .before .screen .ensures) (c .before .before .before .enum-told .given .1)) (rw (c .before .plain-work .ensures) at (c .ready .ensures))
+unfolding screenedOpened workAt
+returns-2 c = 
+    let a = c .before .before .before .before .before .before .before .before .args in
+    (rw (c .before .plain-work .ensures) at (c .ready .ensures)) ∙ sym (by-screen disableAttestation (a .image .now) (requestOf disableCode (a .bytes .now) 0 [] false) (a .n) _ (ap (eqb (length (a .bytes .now))) (sym (c .before .before .before .before .before .before .before .before .pre))) (told (c .before .before .before .before .before .screen .ensures) (c .before .before .before .enum-told .given .1)))
 
 pub open-disable-spec : {M : Type 1} → statement M
 open-disable-spec =

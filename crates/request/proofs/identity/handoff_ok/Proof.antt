@@ -1,7 +1,8 @@
+-- The tests, in their order.
 use mathlib.Core.Path.{_≡_, _∙_}
 use borrow.Author.Tests.{eq-eqb, ne-eqb}
 use Rattle.layout.proofs.Cases.{cases, told}
-use Rattle.opening.specs.Tasks.{handoffOk}
+use Rattle.opening.specs.Rules.{handoffOk}
 use borrow.Author.Needs.{needs}
 use Rattle.request.proofs.identity.handoff_ok.Statement.{statement}
 use Rattle.request.proofs.identity.handoff_ok.Tie as tie

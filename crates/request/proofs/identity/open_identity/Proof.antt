@@ -1,7 +1,16 @@
-use native.Mathlib.Omega.{arith}
+-- The screen decides (`by-screen`); then the command's own rules.
+use mathlib.Core.Path.{sym, ap, _∙_}
+use mathlib.Core.Bool.{false}
+use mathlib.Core.List.{[]}
+use lib.Dec.{eqb}
+use lib.ListN.{length}
 use Rattle.layout.proofs.Cases.{told}
+use Rattle.opening.specs.Tasks.{requestOf}
+use Rattle.opening.specs.Rules.{identityKey, identityCode}
+use Rattle.request.proofs.Order.{by-screen, handoff-length}
 use Rattle.opening.specs.Works.{workAt}
-use Rattle.request.proofs.Order.{handoff-length}
+use Rattle.request.specs.Screen.{screenedOpened}
+use native.Mathlib.Omega.{arith}
 use borrow.Author.Needs.{needs}
 use Rattle.request.proofs.identity.open_identity.Statement.{statement}
 use Rattle.request.proofs.identity.open_identity.Tie as tie
@@ -28,7 +37,7 @@ part-plain-work-start : tie.Need-part-plain-work-start
 part-plain-work-start c = search needs
 
 part-plain-work-end : tie.Need-part-plain-work-end
-part-plain-work-end c = omega (arith, handoff-length (c .before .before .before .before .before .before .before .args .handoff .now) (told (c .before .handoff-ok .ensures) (c .if1 .taken)))
+part-plain-work-end c = omega (arith, handoff-length (c .before .before .before .before .before .before .before .before .args .handoff .now) (told (c .before .handoff-ok .ensures) (c .if1 .taken)))
 
 plain-work-requires : tie.Need-plain-work-requires
 plain-work-requires c κs = search needs
@@ -40,14 +49,21 @@ refused-requires-2 : tie.Need-refused-requires-2
 refused-requires-2 c κs = search needs
 
 returns : tie.Need-returns
-returns c = rw (told (c .before .before .before .before .screen .ensures) (c .before .before .status .given .1)) (c .refused .ensures)
+returns c = 
+    let a = c .before .before .before .before .before .before .before .before .args in
+    c .refused .ensures ∙ sym (by-screen identityKey (a .image .now) (requestOf identityCode (a .bytes .now) 0 (a .handoff .now) false) (a .n) _ (ap (eqb (length (a .bytes .now))) (sym (c .before .before .before .before .before .before .before .before .pre))) (told (c .before .before .before .before .screen .ensures) (c .before .before .status .given .1)))
 
 returns-2 : tie.Need-returns-2
-unfolding workAt
-returns-2 c = rw (told (c .before .before .before .before .before .before .before .screen .ensures) (c .before .before .before .before .before .enum-told .given .1), told (c .before .before .before .before .handoff-ok .ensures) (c .before .before .before .if1 .taken)) (rw (c .before .plain-work .ensures) at (c .ready .ensures))
+unfolding screenedOpened workAt
+returns-2 c = 
+    let a = c .before .before .before .before .before .before .before .before .before .before .before .args in
+    rw ((by-screen identityKey (a .image .now) (requestOf identityCode (a .bytes .now) 0 (a .handoff .now) false) (a .n) _ (ap (eqb (length (a .bytes .now))) (sym (c .before .before .before .before .before .before .before .before .before .before .before .pre))) (told (c .before .before .before .before .before .before .before .screen .ensures) (c .before .before .before .before .before .enum-told .given .1))), told (c .before .before .before .before .handoff-ok .ensures) (c .before .before .before .if1 .taken)) (rw (c .before .plain-work .ensures) at (c .ready .ensures))
 
 returns-3 : tie.Need-returns-3
-returns-3 c = rw (told (c .before .before .before .before .before .screen .ensures) (c .before .before .before .enum-told .given .1), told (c .before .before .handoff-ok .ensures) (c .before .if1 .left)) (c .refused2 .ensures)
+unfolding screenedOpened
+returns-3 c = 
+    let a = c .before .before .before .before .before .before .before .before .before .args in
+    rw ((by-screen identityKey (a .image .now) (requestOf identityCode (a .bytes .now) 0 (a .handoff .now) false) (a .n) _ (ap (eqb (length (a .bytes .now))) (sym (c .before .before .before .before .before .before .before .before .before .pre))) (told (c .before .before .before .before .before .screen .ensures) (c .before .before .before .enum-told .given .1))), told (c .before .before .handoff-ok .ensures) (c .before .if1 .left)) (c .refused2 .ensures)
 
 pub open-identity-spec : {M : Type 1} → statement M
 open-identity-spec =

@@ -1,8 +1,9 @@
+-- The two sides of the comparison.
 use native.Mathlib.Omega.{arith}
 use Prim.Native.Nat.{_-_}
 use lib.ListN.{length, drop, length-drop}
 use lib.Seq.{take-all}
-use Rattle.opening.specs.Tasks.{badChecksum}
+use Rattle.opening.specs.Rules.{badChecksum}
 use borrow.Author.Needs.{needs}
 use Rattle.request.proofs.screen.bad_checksum.Statement.{statement}
 use Rattle.request.proofs.screen.bad_checksum.Tie as tie

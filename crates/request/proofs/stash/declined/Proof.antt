@@ -1,14 +1,10 @@
-use native.Mathlib.Omega.{arith}
-use mathlib.Core.Path.{_≡_, ap, _∙_}
-use mathlib.Core.List.{List}
-use Prim.Native.Nat.{ℕ}
-use Rattle.opening.specs.Tasks.{answerOf}
-use Rattle.opening.specs.Works.{plainWork}
-use Rattle.work.specs.declared.Kind.the-variants.{Nothing}
-use Rattle.request.proofs.Sealing.{one-byte}
+-- The dpe result is the rest of the answer.
 use borrow.Author.Needs.{needs}
 use Rattle.request.proofs.stash.declined.Statement.{statement}
 use Rattle.request.proofs.stash.declined.Tie as tie
+
+four-requires : tie.Need-four-requires
+four-requires c κs = search needs
 
 slice-aggregate-plain-work : tie.Need-slice-aggregate-plain-work
 slice-aggregate-plain-work c = search needs
@@ -17,7 +13,8 @@ plain-work-requires : tie.Need-plain-work-requires
 plain-work-requires c κs = search needs
 
 returns : tie.Need-returns
-returns c = c .plain-work .ensures ∙ ap (λ (l : List ℕ). plainWork Nothing (answerOf 0x4D454153 l)) (one-byte (c .before .before .args .result) (omega arith))
+returns c = rw (← c .before .before .four .ensures) (c .plain-work .ensures)
 
 pub declined-spec : {M : Type 1} → statement M
-declined-spec = tie.close (tie.spec slice-aggregate-plain-work plain-work-requires returns)
+declined-spec =
+    tie.close (tie.spec four-requires slice-aggregate-plain-work plain-work-requires returns)

@@ -1,6 +1,13 @@
+-- The screen decides (`by-screen`); then the command's own rules.
+use mathlib.Core.Path.{sym, ap, _∙_}
+use mathlib.Core.Bool.{false}
+use mathlib.Core.List.{[]}
+use lib.Dec.{eqb}
+use lib.ListN.{length}
 use Rattle.layout.proofs.Cases.{told}
-use Rattle.request.proofs.Order.{screened-length}
-use mathlib.Core.Path.{_≡_, _∙_}
+use Rattle.opening.specs.Tasks.{requestOf}
+use Rattle.opening.specs.Rules.{stashMeasurement, stashCode}
+use Rattle.request.proofs.Order.{by-screen, screened-length}
 use borrow.Author.Needs.{needs}
 use Rattle.request.proofs.stash.open_stash.Statement.{statement}
 use Rattle.request.proofs.stash.open_stash.Tie as tie
@@ -18,13 +25,19 @@ enum-told : tie.Need-enum-told
 enum-told c = search needs
 
 stash-ready-requires : tie.Need-stash-ready-requires
-stash-ready-requires c κs = (c .before .before .before .before .before .pre .0, screened-length 0x4D454153 (c .before .before .before .before .before .args .bytes .now) (c .before .before .before .before .before .args .n) (told (c .before .before .screen .ensures) (c .enum-told .given .1)) ∙ c .before .before .before .before .before .pre .1)
+stash-ready-requires c κs = 
+    let g = c .before .before .before .before .before in
+    (g .pre .0, screened-length stashCode (g .args .bytes .now) (g .args .n) (told (c .before .before .screen .ensures) (c .enum-told .given .1)) ∙ g .pre .1)
 
 returns : tie.Need-returns
-returns c = rw (told (c .before .before .before .before .screen .ensures) (c .before .before .status .given .1)) (c .refused .ensures)
+returns c = 
+    let a = c .before .before .before .before .before .before .before .args in
+    c .refused .ensures ∙ sym (by-screen stashMeasurement (a .image .now) (requestOf stashCode (a .bytes .now) (a .caller) [] false) (a .n) _ (ap (eqb (length (a .bytes .now))) (sym (c .before .before .before .before .before .before .before .pre .1))) (told (c .before .before .before .before .screen .ensures) (c .before .before .status .given .1)))
 
 returns-2 : tie.Need-returns-2
-returns-2 c = rw (told (c .before .before .before .screen .ensures) (c .before .enum-told .given .1)) (c .stash-ready .ensures)
+returns-2 c = 
+    let a = c .before .before .before .before .before .before .args in
+    c .stash-ready .ensures ∙ sym (by-screen stashMeasurement (a .image .now) (requestOf stashCode (a .bytes .now) (a .caller) [] false) (a .n) _ (ap (eqb (length (a .bytes .now))) (sym (c .before .before .before .before .before .before .pre .1))) (told (c .before .before .before .screen .ensures) (c .before .enum-told .given .1)))
 
 pub open-stash-spec : {M : Type 1} → statement M
 open-stash-spec =

@@ -1,14 +1,14 @@
+-- Each exit is one line of the stash's rules: off, not well formed, a free node, none.
 use native.Mathlib.Omega.{arith}
-use mathlib.Core.Path.{_≡_, _∙_}
-use Prim.Native.Nat.{ℕ}
 use lib.ListN.{getD}
 use borrow.Author.Tests.{eq-eqb, ne-eqb, le-leb, lt-leb, not-true, not-false}
-use Rattle.layout.specs.Sizes.{nodeCount}
+use Rattle.layout.specs.Sizes.{nodeCount, attestationAt}
 use Rattle.layout.proofs.Cases.{told}
-use Rattle.tree.specs.Nodes.{freeOf}
-use Rattle.opening.specs.Tasks.{dpeResult}
+use Rattle.tree.specs.Tree.{lowestFree}
+use Rattle.tree.specs.Nodes.{treeIn}
 use Rattle.opening.specs.Works.{workAt}
 use Rattle.opening.specs.Openings.{viewIn}
+use Rattle.request.specs.Screen.{screenedOpened}
 use borrow.Author.Needs.{needs}
 use Rattle.request.proofs.stash.stash_ready.Statement.{statement}
 use Rattle.request.proofs.stash.stash_ready.Tie as tie
@@ -23,8 +23,10 @@ ready-requires : tie.Need-ready-requires
 ready-requires c κs = search needs
 
 returns : tie.Need-returns
-unfolding viewIn dpeResult workAt
-returns c = rw (ne-eqb (getD (c .before .before .before .before .before .before .args .image .now) 1 0) 1 (c .before .before .if1 .taken)) (rw (c .before .declined .ensures) at (c .ready .ensures))
+unfolding screenedOpened viewIn workAt
+returns c = 
+    let a = c .before .before .before .before .before .before .args in
+    rw (ne-eqb (getD (a .image .now) attestationAt 0) 1 (c .before .before .if1 .taken)) (rw (c .before .declined .ensures) at (c .ready .ensures))
 
 well-formed-requires : tie.Need-well-formed-requires
 well-formed-requires c κs = search needs
@@ -33,8 +35,10 @@ refused-requires : tie.Need-refused-requires
 refused-requires c κs = search needs
 
 returns-2 : tie.Need-returns-2
-unfolding viewIn dpeResult workAt
-returns-2 c = rw (eq-eqb (getD (c .before .before .before .before .before .before .before .args .image .now) 1 0) 1 (c .before .before .before .if1 .left), told (c .before .before .well-formed .ensures) (not-true _ (c .before .if2 .taken))) (c .refused .ensures)
+unfolding screenedOpened viewIn workAt
+returns-2 c = 
+    let a = c .before .before .before .before .before .before .before .args in
+    rw (eq-eqb (getD (a .image .now) attestationAt 0) 1 (c .before .before .before .if1 .left), told (c .before .before .well-formed .ensures) (not-true _ (c .before .if2 .taken))) (c .refused .ensures)
 
 free-index-requires : tie.Need-free-index-requires
 free-index-requires c κs = search needs
@@ -46,8 +50,10 @@ ready-requires-2 : tie.Need-ready-requires-2
 ready-requires-2 c κs = search needs
 
 returns-3 : tie.Need-returns-3
-unfolding viewIn dpeResult workAt
-returns-3 c = rw (eq-eqb (getD (c .before .before .before .before .before .before .before .before .before .before .args .image .now) 1 0) 1 (c .before .before .before .before .before .before .if1 .left), told (c .before .before .before .before .before .well-formed .ensures) (not-false _ (c .before .before .before .before .if2 .left)), lt-leb nodeCount (freeOf (c .before .before .before .before .before .before .before .before .before .before .args .image .now)) (omega (arith, c .before .before .before .free-index .ensures .0))) (rw (c .before .stash-work .ensures) at (c .ready2 .ensures))
+unfolding screenedOpened viewIn
+returns-3 c = 
+    let a = c .before .before .before .before .before .before .before .before .before .before .args in
+    rw (eq-eqb (getD (a .image .now) attestationAt 0) 1 (c .before .before .before .before .before .before .if1 .left), told (c .before .before .before .before .before .well-formed .ensures) (not-false _ (c .before .before .before .before .if2 .left)), lt-leb nodeCount (lowestFree nodeCount (treeIn (a .image .now))) (omega (arith, c .before .before .before .free-index .ensures .0))) (rw (c .before .stash-work .ensures) at (c .ready2 .ensures))
 
 declined-requires-2 : tie.Need-declined-requires-2
 declined-requires-2 c κs = search needs
@@ -56,8 +62,10 @@ ready-requires-3 : tie.Need-ready-requires-3
 ready-requires-3 c κs = search needs
 
 returns-4 : tie.Need-returns-4
-unfolding viewIn dpeResult workAt
-returns-4 c = rw (eq-eqb (getD (c .before .before .before .before .before .before .before .before .before .before .args .image .now) 1 0) 1 (c .before .before .before .before .before .before .if1 .left), told (c .before .before .before .before .before .well-formed .ensures) (not-false _ (c .before .before .before .before .if2 .left)), le-leb nodeCount (freeOf (c .before .before .before .before .before .before .before .before .before .before .args .image .now)) (omega (arith, c .before .before .before .free-index .ensures .0))) (rw (c .before .declined2 .ensures) at (c .ready3 .ensures))
+unfolding screenedOpened viewIn workAt
+returns-4 c = 
+    let a = c .before .before .before .before .before .before .before .before .before .before .args in
+    rw (eq-eqb (getD (a .image .now) attestationAt 0) 1 (c .before .before .before .before .before .before .if1 .left), told (c .before .before .before .before .before .well-formed .ensures) (not-false _ (c .before .before .before .before .if2 .left)), le-leb nodeCount (lowestFree nodeCount (treeIn (a .image .now))) (omega (arith, c .before .before .before .free-index .ensures .0))) (rw (c .before .declined2 .ensures) at (c .ready3 .ensures))
 
 pub stash-ready-spec : {M : Type 1} → statement M
 stash-ready-spec =

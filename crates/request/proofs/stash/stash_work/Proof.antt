@@ -1,8 +1,9 @@
+-- The callees, put together; the digest lies within the request.
 use native.Mathlib.Omega.{arith}
-use mathlib.Core.Path.{_≡_, refl}
 use Rattle.layout.specs.Words.{zeros}
 use Rattle.layout.proofs.Packing.{part-within}
-use Rattle.opening.specs.Works.{registerIn, stashWork}
+use Rattle.work.specs.Made.{workWith}
+use Rattle.opening.specs.Works.{registerIn, workAt}
 use borrow.Author.Needs.{needs}
 use Rattle.request.proofs.stash.stash_work.Statement.{statement}
 use Rattle.request.proofs.stash.stash_work.Tie as tie
@@ -37,18 +38,24 @@ slice-aggregate-pack c = search needs
 pack-requires : tie.Need-pack-requires
 pack-requires c κs = search needs
 
+four-requires : tie.Need-four-requires
+four-requires c κs = search needs
+
 slice-aggregate-sealed : tie.Need-slice-aggregate-sealed
 slice-aggregate-sealed c = search needs
 
 sealed-requires : tie.Need-sealed-requires
 sealed-requires c κs = search needs
 
+new-work-requires : tie.Need-new-work-requires
+new-work-requires c κs = search needs
+
 returns : tie.Need-returns
-unfolding registerIn stashWork zeros
-returns c =
-    let g = c .before .before .before .before .before .before .before .before .before .before .before .before .before .before in
+unfolding registerIn workAt workWith zeros
+returns c = 
+    let g = c .before .before .before .before .before .before .before .before .before .before .before .before .before .before .before in
     let digest = part-within 48 (g .args .bytes .now) 8 (omega (arith, g .pre .0)) in
-    rw (c .before .before .before .pack .ensures, c .before .before .before .before .before .node-row .ensures, c .before .before .before .before .before .before .before .before .extend .ensures, c .before .before .before .before .before .before .before .extend2 .ensures, c .before .before .before .before .before .before .before .before .before .bytes-in .ensures, c .before .before .before .before .before .before .before .before .before .before .bytes-of .ensures, c .before .before .before .before .before .before .read32 .ensures, c .before .before .before .before .before .before .before .before .before .before .before .holder-index .ensures .0, g .pre .1, digest, c .before .sealed .ensures .0, c .before .sealed .ensures .1)
+    rw (c .new-work .ensures, c .before .before .before .before .pack .ensures, c .before .before .before .before .before .before .node-row .ensures, c .before .before .before .before .before .before .before .before .before .extend .ensures, c .before .before .before .before .before .before .before .before .extend2 .ensures, c .before .before .before .before .before .before .before .before .before .before .bytes-in .ensures, c .before .before .before .before .before .before .before .before .before .before .before .bytes-of .ensures, c .before .before .before .before .before .before .before .read32 .ensures, c .before .before .before .before .before .before .before .before .before .before .before .before .holder-index .ensures .0, ← g .pre .1, digest, c .before .sealed .ensures, c .before .before .before .four .ensures)
 
 pub stash-work-spec : {M : Type 1} → statement M
 stash-work-spec =
@@ -64,6 +71,8 @@ stash-work-spec =
     node-row-requires
     slice-aggregate-pack
     pack-requires
+    four-requires
     slice-aggregate-sealed
     sealed-requires
+    new-work-requires
     returns)

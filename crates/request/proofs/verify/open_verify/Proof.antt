@@ -1,5 +1,14 @@
+-- The screen decides (`by-screen`); then the command's own rules.
+use mathlib.Core.Path.{sym, ap, _∙_}
+use mathlib.Core.List.{[]}
+use lib.Dec.{eqb}
+use lib.ListN.{length}
 use Rattle.layout.proofs.Cases.{told}
+use Rattle.opening.specs.Tasks.{requestOf}
+use Rattle.opening.specs.Rules.{verifySignature, verifyCode}
+use Rattle.request.proofs.Order.{by-screen}
 use Rattle.opening.specs.Works.{workAt}
+use Rattle.request.specs.Screen.{screenedOpened}
 use borrow.Author.Needs.{needs}
 use Rattle.request.proofs.verify.open_verify.Statement.{statement}
 use Rattle.request.proofs.verify.open_verify.Tie as tie
@@ -29,14 +38,21 @@ refused-requires-2 : tie.Need-refused-requires-2
 refused-requires-2 c κs = search needs
 
 returns : tie.Need-returns
-returns c = rw (told (c .before .before .before .before .screen .ensures) (c .before .before .status .given .1)) (c .refused .ensures)
+returns c = 
+    let a = c .before .before .before .before .before .before .before .args in
+    c .refused .ensures ∙ sym (by-screen verifySignature (a .image .now) (requestOf verifyCode (a .bytes .now) 0 [] (a .verdict)) (a .n) _ (ap (eqb (length (a .bytes .now))) (sym (c .before .before .before .before .before .before .before .pre))) (told (c .before .before .before .before .screen .ensures) (c .before .before .status .given .1)))
 
 returns-2 : tie.Need-returns-2
-unfolding workAt
-returns-2 c = rw (told (c .before .before .before .before .before .before .screen .ensures) (c .before .before .before .before .enum-told .given .1), c .before .before .before .if1 .taken) (rw (c .before .plain-work .ensures) at (c .ready .ensures))
+unfolding screenedOpened workAt
+returns-2 c = 
+    let a = c .before .before .before .before .before .before .before .before .before .args in
+    rw ((by-screen verifySignature (a .image .now) (requestOf verifyCode (a .bytes .now) 0 [] (a .verdict)) (a .n) _ (ap (eqb (length (a .bytes .now))) (sym (c .before .before .before .before .before .before .before .before .before .pre))) (told (c .before .before .before .before .before .before .screen .ensures) (c .before .before .before .before .enum-told .given .1))), c .before .before .before .if1 .taken) (rw (c .before .plain-work .ensures) at (c .ready .ensures))
 
 returns-3 : tie.Need-returns-3
-returns-3 c = rw (told (c .before .before .before .before .screen .ensures) (c .before .before .enum-told .given .1), c .before .if1 .left) (c .refused2 .ensures)
+unfolding screenedOpened
+returns-3 c = 
+    let a = c .before .before .before .before .before .before .before .args in
+    rw ((by-screen verifySignature (a .image .now) (requestOf verifyCode (a .bytes .now) 0 [] (a .verdict)) (a .n) _ (ap (eqb (length (a .bytes .now))) (sym (c .before .before .before .before .before .before .before .pre))) (told (c .before .before .before .before .screen .ensures) (c .before .before .enum-told .given .1))), c .before .if1 .left) (c .refused2 .ensures)
 
 pub open-verify-spec : {M : Type 1} → statement M
 open-verify-spec =
