@@ -279,8 +279,7 @@ module _ (h : List Task) (t : Bool) (v : View) (r : Request) (on : v .on ≡ tru
   stash-fits : command-fits stashMeasurement
   unfolding command-fits numberOf
   stash-fits n =
-      let torn = on (negated (v .on) (n .0)) in
-      (
+      let torn = on (negated (v .on) (n .0)) in (
         record {
           rest = λ e. inl refl;
           torn = λ e. absurd (true≢false (sym e ∙ torn));
@@ -345,36 +344,33 @@ fits-boot h t u v b = go (isOff h t) refl v
     kept-torn e = left-false t (any disables h) (ap not e)
 
     go : (o : Bool) → isOff h t ≡ o → (w : Bool) → FitsRuling h t u true (accepted (updateTask (not o) w b) [])
-    go true e w =
-        (
-          record {
-            rest = λ z. absurd (omega arith);
-            torn = λ q. record { same = λ x y. refl; index = λ x. refl; quiet = λ x p. refl };
-            allowed = λ q. tt;
-            off = λ q z. inr (ap (λ (x : Bool). x || any disables h) (sym q) ∙ e);
-          },
-          zero-le,
-          refl,
-        )
-    go false e true =
-        (
-          record {
-            rest = λ z. inr (kept-torn e);
-            torn = λ q. absurd (true≢false (sym q ∙ kept-torn e));
-            allowed = λ q. tt;
-            off = λ q z. absurd (false≢true z);
-          },
-          zero-le,
-          refl,
-        )
-    go false e false =
-        (
-          record {
-            rest = λ z. inr (kept-torn e);
-            torn = λ q. absurd (true≢false (sym q ∙ kept-torn e));
-            allowed = λ q. tt;
-            off = λ q z. absurd (false≢true z);
-          },
-          zero-le,
-          refl,
-        )
+    go true e w = (
+      record {
+        rest = λ z. absurd (omega arith);
+        torn = λ q. record { same = λ x y. refl; index = λ x. refl; quiet = λ x p. refl };
+        allowed = λ q. tt;
+        off = λ q z. inr (ap (λ (x : Bool). x || any disables h) (sym q) ∙ e);
+      },
+      zero-le,
+      refl,
+    )
+    go false e true = (
+      record {
+        rest = λ z. inr (kept-torn e);
+        torn = λ q. absurd (true≢false (sym q ∙ kept-torn e));
+        allowed = λ q. tt;
+        off = λ q z. absurd (false≢true z);
+      },
+      zero-le,
+      refl,
+    )
+    go false e false = (
+      record {
+        rest = λ z. inr (kept-torn e);
+        torn = λ q. absurd (true≢false (sym q ∙ kept-torn e));
+        allowed = λ q. tt;
+        off = λ q z. absurd (false≢true z);
+      },
+      zero-le,
+      refl,
+    )

@@ -1,16 +1,23 @@
--- What the code's work in hand, call and report are to the machine of demand 3. Assumes nothing.
+-- What the code's work in hand, act and report are to the machine of demand 3. Assumes nothing.
+use mathlib.Core.Path.{_≡_}
 use Prim.Native.Nat.{ℕ}
-use mathlib.Core.Bool.{Bool, cond}
+use mathlib.Core.Bool.{Bool, true, cond}
 use mathlib.Core.List.{List}
 use mathlib.Core.Option.{Option, none, some}
 use lib.Dec.{eqb}
 use lib.ListN.{take}
-use Rattle.opening.specs.Tasks.{requestOf}
+use Rattle.work.specs.Entries.{leftOf}
+use Rattle.work.specs.declared.Work.{Work}
+use Rattle.opening.specs.declared.BootStatus.{BootStatus}
+use Rattle.opening.specs.declared.BootStatus.the-variants as bootStatus
+use Rattle.opening.specs.declared.Booted as boots
+use Rattle.opening.specs.Tasks.{requestOf, bootOf}
 use Rattle.opening.specs.Openings.{outcomeNumber}
-use Rattle.history.specs.Calls.{Hand, Machine, Call, request, updateBoot, store, powerCut, Result, refusal, opened, booted, stored, noWork, cutOff, kindName}
+use Rattle.history.specs.Calls.{Hand, Machine, Step, request, updateBoot, store, answer, powerCut, Act, openCold, call, Result, refusal, opened, booted, stored, answered, noWork, cutOff, kindName}
 use Rattle.machine.specs.declared.InHand.{InHand}
 use Rattle.machine.specs.declared.Report.{Report}
-use Rattle.machine.specs.declared.Report.the-variants.{Refused, Opened, Booted, Stored, NoWork, CutOff}
+use Rattle.machine.specs.declared.Report.the-variants.{Refused, Opened, Booted, Stored, Answered, NoWork, CutOff}
+use Rattle.machine.specs.declared.Made.{Made}
 
 -- the work in hand, if one is present
 unfoldable pub handOf : InHand → Option Hand
@@ -20,17 +27,47 @@ handOf h = cond (h .present) (some (record { work = h .work; boot = h .boot })) 
 unfoldable pub machineOf : List ℕ → InHand → Machine
 machineOf image h = record { image = image; hand = handOf h }
 
--- a call by its number: 0 a request, 1 an update boot, 2 a store, any other a power cut
-unfoldable pub callOf : ℕ → ℕ → List ℕ → ℕ → List ℕ → Bool → List ℕ → List ℕ → Call
-callOf op code bytes caller handoff verdict digest secret =
-    cond (eqb op 0) (request (requestOf code bytes caller handoff verdict))
-    (cond (eqb op 1) (updateBoot digest secret verdict) (cond (eqb op 2) store powerCut))
+-- an act by its number: 0 a request, 1 an update boot, 2 a store, 3 a cold boot, 4 an answer, any other a power cut
+unfoldable pub actOf : ℕ → ℕ → List ℕ → ℕ → List ℕ → Bool → List ℕ → List ℕ → List ℕ → Act
+actOf op code bytes caller handoff verdict digest secret buffer =
+    cond (eqb op 0) (call (request (requestOf code bytes caller handoff verdict)))
+    (cond (eqb op 1) (call (updateBoot (bootOf digest secret) verdict))
+    (cond (eqb op 2) (call store)
+    (cond (eqb op 3) (openCold (bootOf digest secret))
+    (cond (eqb op 4) (call (answer buffer)) (call powerCut)))))
 
--- a report beside the work in hand: kind and answer are that work's
-unfoldable pub resultOf : InHand → Report → Result
-resultOf h (Refused n) = refusal n
-resultOf h (Opened n) = opened (kindName (h .work .kind)) n (take (h .work .«answer_len») (h .work .answer))
-resultOf h (Booted o n) = booted (outcomeNumber o) (kindName (h .work .kind)) n
-resultOf h (Stored n) = stored n
-resultOf h NoWork = noWork
-resultOf h CutOff = cutOff
+-- a report beside the work in hand and the buffer: kind and answer are that work's
+unfoldable pub resultOf : InHand → Report → List ℕ → Result
+resultOf h (Refused n) buffer = refusal n
+resultOf h (Opened n) buffer = opened (kindName (h .work .kind)) n (take (h .work .«answer_len») (h .work .answer))
+resultOf h (Booted o n) buffer = booted (outcomeNumber o) (kindName (h .work .kind)) n
+resultOf h (Stored n) buffer = stored n
+resultOf h (Answered n w) buffer = answered n w buffer
+resultOf h NoWork buffer = noWork
+resultOf h CutOff buffer = cutOff
+
+-- what was made, with the image and the buffer afterwards: a step of the machine
+unfoldable pub stepOf : Made → List ℕ → List ℕ → Step Machine
+stepOf m image buffer = record { state = machineOf image (m .hand); result = resultOf (m .hand) (m .report) buffer }
+
+-- what was made is a step that no buffer has a part in
+abbrev pub Makes : Made → List ℕ → Step Machine → Type 0
+Makes m image s = (buffer : List ℕ) → stepOf m image buffer ≡ s
+
+-- the buffer that a step leaves: only an answer writes it
+unfoldable pub bufferAfter : Result → List ℕ → List ℕ
+bufferAfter (refusal n) buffer = buffer
+bufferAfter (opened k n a) buffer = buffer
+bufferAfter (booted o k n) buffer = buffer
+bufferAfter (stored n) buffer = buffer
+bufferAfter (answered n w after) buffer = after
+bufferAfter noWork buffer = buffer
+bufferAfter cutOff buffer = buffer
+
+-- what a boot's opening makes of the work in hand
+abbrev pub madeBy : InHand → Work → BootStatus → Made
+madeBy h w (bootStatus.Ready o) = record { hand = record { present = true; boot = true; work = w }; report = Booted o (leftOf w) }
+madeBy h w (bootStatus.Refused n) = record { hand = h; report = Refused n }
+
+unfoldable pub bootMade : InHand → boots.Booted → Made
+bootMade h b = madeBy h (b .work) (b .status)

@@ -1,14 +1,15 @@
-// The four calls, each with the three equations that make it the machine's step: the image, the work
-// in hand, the report.
+// The acts one by one, each with the equation that makes it the machine's step.
 ghost use mathlib.Core.Path.{_≡_};
-ghost use Rattle.opening.specs.Tasks.{requestOf};
-ghost use Rattle.history.specs.Calls.{step, request, updateBoot, store, powerCut};
-ghost use Rattle.machine.specs.Call.{machineOf, handOf, resultOf};
+ghost use Rattle.opening.specs.Tasks.{requestOf, bootOf};
+ghost use Rattle.history.specs.Calls.{step, act, openCold, request, updateBoot, store, answer, powerCut};
+ghost use Rattle.machine.specs.Call.{machineOf, stepOf, Makes, bufferAfter, bootMade};
 use crate::InHand;
 use crate::Made;
 use crate::Report;
+use boot::cold::open_cold_boot;
 use boot::update::open_update_boot;
 use opening::BootStatus;
+use opening::Booted;
 use opening::Status;
 use opening::works::boot_number;
 use opening::works::number_of;
@@ -24,9 +25,7 @@ pub fn request_call(
     handoff: &[u8],
     verdict: bool,
 ) -> Made
-    ensures { λ r. ⌜ now (image .exit) ≡ step (machineOf (now (image .entry)) hand) (request (requestOf code (now (bytes .entry)) caller (now (handoff .entry)) verdict)) .state .image ⌝ }
-    ensures { λ r. ⌜ handOf (r .hand) ≡ step (machineOf (now (image .entry)) hand) (request (requestOf code (now (bytes .entry)) caller (now (handoff .entry)) verdict)) .state .hand ⌝ }
-    ensures { λ r. ⌜ resultOf (r .hand) (r .report) ≡ step (machineOf (now (image .entry)) hand) (request (requestOf code (now (bytes .entry)) caller (now (handoff .entry)) verdict)) .result ⌝ }
+    ensures { λ r. ⌜ Makes r (now (image .entry)) (step (machineOf (now (image .entry)) hand) (request (requestOf code (now (bytes .entry)) caller (now (handoff .entry)) verdict))) ⌝ }
 {
     let opened = open_request(image, code, bytes, caller, handoff, verdict);
     let status = opened.status;
@@ -49,19 +48,10 @@ pub fn request_call(
     }
 }
 
-// Opens an update boot: an accepted one's work becomes the one in hand.
-pub fn update_boot_call(
-    image: &[u32],
-    hand: InHand,
-    digest: &[u8],
-    secret: &[u8],
-    verdict: bool,
-) -> Made
-    ensures { λ r. ⌜ now (image .exit) ≡ step (machineOf (now (image .entry)) hand) (updateBoot (now (digest .entry)) (now (secret .entry)) verdict) .state .image ⌝ }
-    ensures { λ r. ⌜ handOf (r .hand) ≡ step (machineOf (now (image .entry)) hand) (updateBoot (now (digest .entry)) (now (secret .entry)) verdict) .state .hand ⌝ }
-    ensures { λ r. ⌜ resultOf (r .hand) (r .report) ≡ step (machineOf (now (image .entry)) hand) (updateBoot (now (digest .entry)) (now (secret .entry)) verdict) .result ⌝ }
+// What a boot's opening makes: an accepted one's work becomes the one in hand.
+fn after_boot(hand: InHand, booted: Booted) -> Made
+    ensures { λ r. ⌜ r ≡ bootMade hand booted ⌝ }
 {
-    let booted = open_update_boot(image, digest, secret, verdict);
     let status = booted.status;
     let BootStatus::Ready(outcome) = status else {
         let number = boot_number(status);
@@ -82,11 +72,29 @@ pub fn update_boot_call(
     }
 }
 
+// Opens an update boot.
+pub fn update_boot_call(
+    image: &[u32],
+    hand: InHand,
+    digest: &[u8],
+    secret: &[u8],
+    verdict: bool,
+) -> Made
+    ensures { λ r. ⌜ Makes r (now (image .entry)) (step (machineOf (now (image .entry)) hand) (updateBoot (bootOf (now (digest .entry)) (now (secret .entry))) verdict)) ⌝ }
+{
+    after_boot(hand, open_update_boot(image, digest, secret, verdict))
+}
+
+// Opens a cold boot.
+pub fn cold_boot_call(image: &[u32], hand: InHand, digest: &[u8], secret: &[u8]) -> Made
+    ensures { λ r. ⌜ Makes r (now (image .entry)) (act (machineOf (now (image .entry)) hand) (openCold (bootOf (now (digest .entry)) (now (secret .entry))))) ⌝ }
+{
+    after_boot(hand, open_cold_boot(image, digest, secret))
+}
+
 // One store of the work in hand. With none in hand it does nothing.
 pub fn store_call(image: &mut [u32], hand: InHand) -> Made
-    ensures { λ r. ⌜ now (image .exit) ≡ step (machineOf (now (image .entry)) hand) store .state .image ⌝ }
-    ensures { λ r. ⌜ handOf (r .hand) ≡ step (machineOf (now (image .entry)) hand) store .state .hand ⌝ }
-    ensures { λ r. ⌜ resultOf (r .hand) (r .report) ≡ step (machineOf (now (image .entry)) hand) store .result ⌝ }
+    ensures { λ r. ⌜ Makes r (now (image .exit)) (step (machineOf (now (image .entry)) hand) store) ⌝ }
 {
     if !hand.present {
         return Made {
@@ -115,11 +123,28 @@ pub fn store_call(image: &mut [u32], hand: InHand) -> Made
     }
 }
 
+// The answer of the work in hand into a buffer. With none in hand it does nothing.
+pub fn answer_call(image: &[u32], hand: InHand, buffer: &mut [u8]) -> Made
+    ensures { λ r. ⌜ stepOf r (now (image .entry)) (now (buffer .exit)) ≡ step (machineOf (now (image .entry)) hand) (answer (now (buffer .entry))) ⌝ }
+    ensures { λ r. ⌜ now (buffer .exit) ≡ bufferAfter (step (machineOf (now (image .entry)) hand) (answer (now (buffer .entry))) .result) (now (buffer .entry)) ⌝ }
+{
+    if !hand.present {
+        return Made {
+            hand,
+            report: Report::NoWork,
+        };
+    }
+    let work = hand.work;
+    let answered = work.answer(buffer);
+    Made {
+        hand,
+        report: Report::Answered(answered.number, answered.written),
+    }
+}
+
 // A power cut: the work in hand goes.
 pub fn cut_call(image: &[u32], hand: InHand) -> Made
-    ensures { λ r. ⌜ now (image .exit) ≡ step (machineOf (now (image .entry)) hand) powerCut .state .image ⌝ }
-    ensures { λ r. ⌜ handOf (r .hand) ≡ step (machineOf (now (image .entry)) hand) powerCut .state .hand ⌝ }
-    ensures { λ r. ⌜ resultOf (r .hand) (r .report) ≡ step (machineOf (now (image .entry)) hand) powerCut .result ⌝ }
+    ensures { λ r. ⌜ Makes r (now (image .entry)) (step (machineOf (now (image .entry)) hand) powerCut) ⌝ }
 {
     let mut none = hand;
     none.present = false;

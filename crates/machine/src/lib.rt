@@ -1,10 +1,12 @@
-// One call of demand 3's machine, made through the entries on a lent image and the work in hand.
-// What runs a list by `call` in a loop runs what the theorem of demand 3 is about.
+// One act of demand 3's machine, made through the entries on a lent image, the work in hand and a
+// lent buffer. What runs a list by `act` in a loop runs what the theorem of demand 3 is about.
 pub mod calls;
 
 ghost use mathlib.Core.Path.{_≡_};
-ghost use Rattle.history.specs.Calls.{step};
-ghost use Rattle.machine.specs.Call.{machineOf, callOf, handOf, resultOf};
+ghost use Rattle.history.specs.Calls.{act};
+ghost use Rattle.machine.specs.Call.{machineOf, actOf, stepOf, bufferAfter};
+use crate::calls::answer_call;
+use crate::calls::cold_boot_call;
 use crate::calls::cut_call;
 use crate::calls::request_call;
 use crate::calls::store_call;
@@ -19,24 +21,39 @@ pub struct InHand {
     pub work: Work,
 }
 
-// What a call reports: a refusal's number, or what was made, with the stores left.
+// What an act reports: a refusal's number, or what was made, with the stores left; of an answer its
+// number and the bytes written.
 pub enum Report {
     Refused(u32),
     Opened(usize),
     Booted(Outcome, usize),
     Stored(usize),
+    Answered(u32, usize),
     NoWork,
     CutOff,
 }
 
-// The work in hand after a call, and the call's report.
+// The work in hand after an act, and the act's report.
 pub struct Made {
     pub hand: InHand,
     pub report: Report,
 }
 
-// One call: 0 a request, 1 an update boot, 2 a store, any other number a power cut.
-pub fn call(
+// The numbers of the acts; any other is a power cut.
+pub const REQUEST: u8 = 0;
+
+pub const UPDATE_BOOT: u8 = 1;
+
+pub const STORE: u8 = 2;
+
+pub const COLD_BOOT: u8 = 3;
+
+pub const ANSWER: u8 = 4;
+
+pub const POWER_CUT: u8 = 5;
+
+// One act.
+pub fn make(
     op: u8,
     image: &mut [u32],
     hand: InHand,
@@ -47,15 +64,17 @@ pub fn call(
     verdict: bool,
     digest: &[u8],
     secret: &[u8],
+    buffer: &mut [u8],
 ) -> Made
-    ensures { λ r. ⌜ now (image .exit) ≡ step (machineOf (now (image .entry)) hand) (callOf op code (now (bytes .entry)) caller (now (handoff .entry)) verdict (now (digest .entry)) (now (secret .entry))) .state .image ⌝ }
-    ensures { λ r. ⌜ handOf (r .hand) ≡ step (machineOf (now (image .entry)) hand) (callOf op code (now (bytes .entry)) caller (now (handoff .entry)) verdict (now (digest .entry)) (now (secret .entry))) .state .hand ⌝ }
-    ensures { λ r. ⌜ resultOf (r .hand) (r .report) ≡ step (machineOf (now (image .entry)) hand) (callOf op code (now (bytes .entry)) caller (now (handoff .entry)) verdict (now (digest .entry)) (now (secret .entry))) .result ⌝ }
+    ensures { λ r. ⌜ stepOf r (now (image .exit)) (now (buffer .exit)) ≡ act (machineOf (now (image .entry)) hand) (actOf op code (now (bytes .entry)) caller (now (handoff .entry)) verdict (now (digest .entry)) (now (secret .entry)) (now (buffer .entry))) ⌝ }
+    ensures { λ r. ⌜ now (buffer .exit) ≡ bufferAfter (act (machineOf (now (image .entry)) hand) (actOf op code (now (bytes .entry)) caller (now (handoff .entry)) verdict (now (digest .entry)) (now (secret .entry)) (now (buffer .entry))) .result) (now (buffer .entry)) ⌝ }
 {
     match op {
-        0 => request_call(&image[..], hand, code, bytes, caller, handoff, verdict),
-        1 => update_boot_call(&image[..], hand, digest, secret, verdict),
-        2 => store_call(image, hand),
+        REQUEST => request_call(&image[..], hand, code, bytes, caller, handoff, verdict),
+        UPDATE_BOOT => update_boot_call(&image[..], hand, digest, secret, verdict),
+        STORE => store_call(image, hand),
+        COLD_BOOT => cold_boot_call(&image[..], hand, digest, secret),
+        ANSWER => answer_call(&image[..], hand, buffer),
         _ => cut_call(&image[..], hand),
     }
 }

@@ -124,8 +124,7 @@ module _ (l : List ℕ) (size : length l ≡ imageWords) where
       let some : 0 < leftOf w = omega arith in
       let v = moved-shaped w s some in
       let one = store-made w m e some in
-      let rest = made-all n (moved w) (storeImage w m) (store-length w m ∙ e) v (omega (arith, left-shaped w s, left-shaped (moved w) v)) in
-      (
+      let rest = made-all n (moved w) (storeImage w m) (store-length w m ∙ e) v (omega (arith, left-shaped w s, left-shaped (moved w) v)) in (
         ap (λ (x : Work). finished (afterStores n x (storeImage w m) .work)) (ap (λ (r : Stored). r .work) (one .0)) ∙ rest .0,
         ap (λ (x : Work). afterStores n x (storeImage w m) .image) (ap (λ (r : Stored). r .work) (one .0))
             ∙ rest .1

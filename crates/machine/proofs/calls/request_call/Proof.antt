@@ -1,7 +1,7 @@
--- `request_call` is the step of a request: the opening is the definition's, and its status decides both sides.
-use Rattle.history.specs.Calls.{step}
-use Rattle.machine.specs.Call.{machineOf, handOf, resultOf}
+-- The opening is the definition's, and its status decides both sides.
 use mathlib.Core.Path.{refl}
+use Rattle.history.specs.Calls.{step}
+use Rattle.machine.specs.Call.{machineOf, handOf, resultOf, stepOf}
 use borrow.Author.Needs.{needs}
 use Rattle.machine.proofs.calls.request_call.Statement.{statement}
 use Rattle.machine.proofs.calls.request_call.Tie as tie
@@ -19,15 +19,15 @@ number-of-requires : tie.Need-number-of-requires
 number-of-requires c κs = search needs
 
 returns : tie.Need-returns
-unfolding step machineOf handOf resultOf
-returns c = rw (← c .before .before .before .open-request .ensures, c .before .enum-told2 .given .1) (refl, (refl, rw (c .number-of .ensures, c .before .enum-told2 .given .1)))
+unfolding step stepOf machineOf handOf resultOf
+returns c = λ b. rw (← c .before .before .before .open-request .ensures .0, c .before .enum-told2 .given .1, c .number-of .ensures, c .before .enum-told2 .given .1)
 
 left-requires : tie.Need-left-requires
 left-requires c κs = search needs
 
 returns-2 : tie.Need-returns-2
-unfolding step machineOf handOf resultOf
-returns-2 c = rw (← c .before .before .before .before .open-request .ensures, c .before .before .enum-told .given .1) (refl, (refl, rw (c .left .ensures)))
+unfolding step stepOf machineOf handOf resultOf
+returns-2 c = λ b. rw (← c .before .before .before .before .open-request .ensures .0, c .before .before .enum-told .given .1, c .left .ensures)
 
 pub request-call-spec : {M : Type 1} → statement M
 request-call-spec =

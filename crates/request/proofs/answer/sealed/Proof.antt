@@ -27,7 +27,7 @@ part-checksum-start : tie.Need-part-checksum-start
 part-checksum-start c = search needs
 
 part-checksum-end : tie.Need-part-checksum-end
-part-checksum-end c = 
+part-checksum-end c =
     let g = c .before .before .before .before .before in
     end-within (g .args .code) 0 (g .args .rest .now) (c .before .before .copy .last .1 .0) [] (g .pre) (c .before .before .copy .ensures .1)
 
@@ -49,7 +49,7 @@ copy-requires-2 : tie.Need-copy-requires-2
 copy-requires-2 c κs = search needs
 
 returns : tie.Need-returns
-returns c = 
+returns c =
     let g = c .before .before .before .before .before .before .before .before .before .before .before .before in
     rw (c .before .copy2 .ensures .1)
     (sealed-bytes (g .args .code) (c .before .before .before .before .before .checksum .result) (g .args .rest .now) (c .before .before .before .before .before .before .before .before .before .copy .last .1 .0) (c .before .before .before .before .four .result) (g .pre) (c .before .before .before .before .before .before .before .before .before .copy .ensures .1) (c .before .before .before .before .four .ensures) (c .before .before .before .before .before .checksum .ensures))

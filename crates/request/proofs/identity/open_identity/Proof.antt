@@ -49,19 +49,19 @@ refused-requires-2 : tie.Need-refused-requires-2
 refused-requires-2 c κs = search needs
 
 returns : tie.Need-returns
-returns c = 
+returns c =
     let a = c .before .before .before .before .before .before .before .before .args in
     c .refused .ensures ∙ sym (by-screen identityKey (a .image .now) (requestOf identityCode (a .bytes .now) 0 (a .handoff .now) false) (a .n) _ (ap (eqb (length (a .bytes .now))) (sym (c .before .before .before .before .before .before .before .before .pre))) (told (c .before .before .before .before .screen .ensures) (c .before .before .status .given .1)))
 
 returns-2 : tie.Need-returns-2
 unfolding screenedOpened workAt
-returns-2 c = 
+returns-2 c =
     let a = c .before .before .before .before .before .before .before .before .before .before .before .args in
     rw ((by-screen identityKey (a .image .now) (requestOf identityCode (a .bytes .now) 0 (a .handoff .now) false) (a .n) _ (ap (eqb (length (a .bytes .now))) (sym (c .before .before .before .before .before .before .before .before .before .before .before .pre))) (told (c .before .before .before .before .before .before .before .screen .ensures) (c .before .before .before .before .before .enum-told .given .1))), told (c .before .before .before .before .handoff-ok .ensures) (c .before .before .before .if1 .taken)) (rw (c .before .plain-work .ensures) at (c .ready .ensures))
 
 returns-3 : tie.Need-returns-3
 unfolding screenedOpened
-returns-3 c = 
+returns-3 c =
     let a = c .before .before .before .before .before .before .before .before .before .args in
     rw ((by-screen identityKey (a .image .now) (requestOf identityCode (a .bytes .now) 0 (a .handoff .now) false) (a .n) _ (ap (eqb (length (a .bytes .now))) (sym (c .before .before .before .before .before .before .before .before .before .pre))) (told (c .before .before .before .before .before .screen .ensures) (c .before .before .before .enum-told .given .1))), told (c .before .before .handoff-ok .ensures) (c .before .if1 .left)) (c .refused2 .ensures)
 

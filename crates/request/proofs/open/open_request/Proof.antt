@@ -18,7 +18,7 @@ refused-requires c κs = search needs
 
 returns : tie.Need-returns
 unfolding openRequest viewIn
-returns c = 
+returns c =
     let a = c .before .before .before .before .before .args in
     opened-told (c .refused .result) (openRequest (a .image .now) (requestOf (a .code) (a .bytes .now) (a .caller) (a .handoff .now) (a .verdict)))
     (rw (ne-eqb (length (a .image .now)) imageWords (c .before .if1 .taken)) (c .refused .ensures))
@@ -31,7 +31,7 @@ refused-requires-2 c κs = search needs
 
 returns-2 : tie.Need-returns-2
 unfolding openRequest viewIn
-returns-2 c = 
+returns-2 c =
     let a = c .before .before .before .before .before .before .before .args in
     opened-told (c .refused2 .result) (openRequest (a .image .now) (requestOf (a .code) (a .bytes .now) (a .caller) (a .handoff .now) (a .verdict)))
     (rw (eq-eqb (length (a .image .now)) imageWords (c .before .before .before .if1 .left), ne-eqb (getD (a .image .now) markAt 0) 1 (c .before .if2 .taken)) (c .refused2 .ensures))
@@ -41,7 +41,7 @@ open-stash-requires c κs = (c .before .before .before .if1 .left, refl)
 
 returns-3 : tie.Need-returns-3
 unfolding commandOpened commandRuling
-returns-3 c = 
+returns-3 c =
     let a = c .before .before .before .before .before .before .before .before .args in
     opened-told (c .open-stash .result) (openRequest (a .image .now) (requestOf (a .code) (a .bytes .now) (a .caller) (a .handoff .now) (a .verdict)))
     (rw (c .before .match .keys1)
@@ -53,7 +53,7 @@ open-disable-requires c κs = search needs
 
 returns-4 : tie.Need-returns-4
 unfolding commandOpened commandRuling
-returns-4 c = 
+returns-4 c =
     let a = c .before .before .before .before .before .before .before .before .args in
     opened-told (c .open-disable .result) (openRequest (a .image .now) (requestOf (a .code) (a .bytes .now) (a .caller) (a .handoff .now) (a .verdict)))
     (rw (c .before .match .keys2)
@@ -65,7 +65,7 @@ open-identity-requires c κs = search needs
 
 returns-5 : tie.Need-returns-5
 unfolding commandOpened commandRuling
-returns-5 c = 
+returns-5 c =
     let a = c .before .before .before .before .before .before .before .before .args in
     opened-told (c .open-identity .result) (openRequest (a .image .now) (requestOf (a .code) (a .bytes .now) (a .caller) (a .handoff .now) (a .verdict)))
     (rw (c .before .match .keys3)
@@ -77,7 +77,7 @@ open-verify-requires c κs = search needs
 
 returns-6 : tie.Need-returns-6
 unfolding commandOpened commandRuling
-returns-6 c = 
+returns-6 c =
     let a = c .before .before .before .before .before .before .before .before .args in
     opened-told (c .open-verify .result) (openRequest (a .image .now) (requestOf (a .code) (a .bytes .now) (a .caller) (a .handoff .now) (a .verdict)))
     (rw (c .before .match .keys4)
@@ -89,7 +89,7 @@ refused-requires-3 c κs = search needs
 
 returns-7 : tie.Need-returns-7
 unfolding openRequest viewIn
-returns-7 c = 
+returns-7 c =
     let a = c .before .before .before .before .before .before .before .before .args in
     let r = c .before .match .rest in
     opened-told (c .refused3 .result) (openRequest (a .image .now) (requestOf (a .code) (a .bytes .now) (a .caller) (a .handoff .now) (a .verdict)))

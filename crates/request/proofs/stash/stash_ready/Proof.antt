@@ -24,7 +24,7 @@ ready-requires c κs = search needs
 
 returns : tie.Need-returns
 unfolding screenedOpened viewIn workAt
-returns c = 
+returns c =
     let a = c .before .before .before .before .before .before .args in
     rw (ne-eqb (getD (a .image .now) attestationAt 0) 1 (c .before .before .if1 .taken)) (rw (c .before .declined .ensures) at (c .ready .ensures))
 
@@ -36,7 +36,7 @@ refused-requires c κs = search needs
 
 returns-2 : tie.Need-returns-2
 unfolding screenedOpened viewIn workAt
-returns-2 c = 
+returns-2 c =
     let a = c .before .before .before .before .before .before .before .args in
     rw (eq-eqb (getD (a .image .now) attestationAt 0) 1 (c .before .before .before .if1 .left), told (c .before .before .well-formed .ensures) (not-true _ (c .before .if2 .taken))) (c .refused .ensures)
 
@@ -51,7 +51,7 @@ ready-requires-2 c κs = search needs
 
 returns-3 : tie.Need-returns-3
 unfolding screenedOpened viewIn
-returns-3 c = 
+returns-3 c =
     let a = c .before .before .before .before .before .before .before .before .before .before .args in
     rw (eq-eqb (getD (a .image .now) attestationAt 0) 1 (c .before .before .before .before .before .before .if1 .left), told (c .before .before .before .before .before .well-formed .ensures) (not-false _ (c .before .before .before .before .if2 .left)), lt-leb nodeCount (lowestFree nodeCount (treeIn (a .image .now))) (omega (arith, c .before .before .before .free-index .ensures .0))) (rw (c .before .stash-work .ensures) at (c .ready2 .ensures))
 
@@ -63,7 +63,7 @@ ready-requires-3 c κs = search needs
 
 returns-4 : tie.Need-returns-4
 unfolding screenedOpened viewIn workAt
-returns-4 c = 
+returns-4 c =
     let a = c .before .before .before .before .before .before .before .before .before .before .args in
     rw (eq-eqb (getD (a .image .now) attestationAt 0) 1 (c .before .before .before .before .before .before .if1 .left), told (c .before .before .before .before .before .well-formed .ensures) (not-false _ (c .before .before .before .before .if2 .left)), le-leb nodeCount (lowestFree nodeCount (treeIn (a .image .now))) (omega (arith, c .before .before .before .free-index .ensures .0))) (rw (c .before .declined2 .ensures) at (c .ready3 .ensures))
 

@@ -1,0 +1,26 @@
+-- Whether a work is present decides both sides; the answer is the definition's.
+use borrow.Author.Tests.{not-true, not-false}
+use mathlib.Core.Path.{refl}
+use Rattle.history.specs.Calls.{step}
+use Rattle.machine.specs.Call.{machineOf, handOf, resultOf, stepOf, bufferAfter}
+use borrow.Author.Needs.{needs}
+use Rattle.machine.proofs.calls.answer_call.Statement.{statement}
+use Rattle.machine.proofs.calls.answer_call.Tie as tie
+
+returns : tie.Need-returns
+unfolding step stepOf machineOf handOf resultOf bufferAfter
+returns c = rw (not-true (c .before .before .before .before .args .hand .present) (c .if1 .taken)) (refl, refl)
+
+answer-requires : tie.Need-answer-requires
+answer-requires c κs = search needs
+
+same-length : tie.Need-same-length
+same-length c = search needs
+
+returns-2 : tie.Need-returns-2
+unfolding step stepOf machineOf handOf resultOf bufferAfter
+returns-2 c =
+    rw (not-false (c .before .before .before .before .before .before .before .before .before .args .hand .present) (c .before .before .before .before .before .if1 .left), ← c .before .before .answer .ensures .0, c .before .before .answer .ensures .1) (refl, refl)
+
+pub answer-call-spec : {M : Type 1} → statement M
+answer-call-spec = tie.close (tie.spec returns answer-requires same-length returns-2)
