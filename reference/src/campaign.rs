@@ -1,12 +1,12 @@
 //! Runs another program on generated inputs and compares byte for byte.
 
-use crate::generate::{program_input, script, sealed, Script};
+use crate::checksum::sealed;
+use crate::generate::{program_input, script, Script};
 use crate::layout::{DISABLE, IDENTITY, IMAGE_WORDS, STASH, VERIFY};
-use crate::mailbox::{mailbox, mailbox_on};
-use crate::player::{play, play_unwatched, Player};
-use crate::script::{encode, Op, INPUT_BYTES, LENT_WORDS};
+use crate::mailbox::mailbox;
+use crate::player::play;
+use crate::script::{encode, BootBytes, Mail, Op, INPUT_BYTES, LENT_WORDS};
 use crate::show;
-use crate::wrong::{Engine, Wrong};
 use std::fs;
 use std::io::{Read, Write};
 use std::path::{Path, PathBuf};
@@ -146,16 +146,20 @@ fn long_inputs() -> Vec<Vec<u8>> {
 
 fn longest_operations() -> Vec<Op> {
     let most = usize::from(u16::MAX);
-    let boot = |digest: usize, secret: usize| Op::Cold {
-        digest: vec![1; digest],
-        secret: vec![2; secret],
+    let boot = |digest: usize, secret: usize| {
+        Op::Cold(BootBytes {
+            digest: vec![1; digest],
+            secret: vec![2; secret],
+        })
     };
-    let request = |table: usize, code: u32, length: usize| Op::Request {
-        code,
-        caller: 0,
-        verdict: 1,
-        table: vec![3; table],
-        bytes: sealed(code, &vec![0xFF; length - 4]),
+    let request = |table: usize, code: u32, length: usize| {
+        Op::Request(Mail {
+            code,
+            caller: 0,
+            verdict: 1,
+            table: vec![3; table],
+            bytes: sealed(code, &vec![0xFF; length - 4]),
+        })
     };
     vec![
         Op::Answer(u16::MAX),
@@ -337,56 +341,4 @@ pub fn mailbox_campaign(program: &Path, count: u64) -> Result<bool, String> {
     }
     println!("{count} inputs, 0 differences");
     Ok(true)
-}
-
-/// How a wrong engine fares.
-pub struct Caught {
-    pub wrong: Wrong,
-    /// Scripts until the outputs differ, if they do.
-    pub scripts: Option<u64>,
-    /// Scripts until the book beside it disagrees, if it does.
-    pub book: Option<u64>,
-}
-
-/// Plays every wrong engine until it is caught, `count` scripts at most.
-pub fn wrong_engines(count: u64, mut each: impl FnMut(&Caught)) -> bool {
-    let mut scripts: Vec<(Vec<u8>, Vec<u8>)> = Vec::new();
-    let mut all = true;
-    for &wrong in Wrong::ALL {
-        let engine = Engine::wrong(wrong);
-        let mut caught = Caught {
-            wrong,
-            scripts: None,
-            book: None,
-        };
-        for seed in 0..count {
-            if wrong.is_of_program() {
-                let input = program_input(seed);
-                if mailbox_on(engine, &input) != mailbox(&input) {
-                    caught.scripts = Some(seed + 1);
-                    break;
-                }
-                continue;
-            }
-            if scripts.len() as u64 == seed {
-                let input = script(seed).bytes();
-                let output = play(&input);
-                scripts.push((input, output));
-            }
-            let (input, output) = &scripts[seed as usize];
-            if caught.book.is_none() && Player::new(engine).run(input).is_err() {
-                caught.book = Some(seed + 1);
-            }
-            if caught.scripts.is_none() && play_unwatched(engine, input) != *output {
-                caught.scripts = Some(seed + 1);
-            }
-            // The book is looked at for as long, and a little longer.
-            if caught.scripts.is_some() && (caught.book.is_some() || seed >= 200) {
-                break;
-            }
-        }
-        all &= caught.scripts.is_some();
-        each(&caught);
-    }
-    all
 }

@@ -1,8 +1,7 @@
 //! The second program: plays scripts, makes them, and compares with others.
 
-use reference::campaign::{campaign, mailbox_campaign, wrong_engines, Options};
-use reference::wrong::{Engine, Wrong};
-use reference::{generate, mailbox, player, script, show};
+use reference::campaign::{campaign, mailbox_campaign, Options};
+use reference::{generate, mailbox, player, script, show, wrong};
 use std::io::{self, Read, Write};
 use std::path::PathBuf;
 use std::process::ExitCode;
@@ -37,14 +36,9 @@ fn command(words: &[String]) -> Result<bool, String> {
     match (name.as_str(), rest) {
         ("play", []) => write(&player::play(&input(script::INPUT_BYTES)?)),
         ("play", [name]) => {
-            let wrong = Wrong::ALL
-                .iter()
-                .find(|wrong| format!("{wrong:?}") == *name);
-            let engine = Engine::wrong(*wrong.ok_or_else(|| format!("{name} is no wrong engine"))?);
-            write(&player::play_unwatched(
-                engine,
-                &input(script::INPUT_BYTES)?,
-            ))
+            let wrong = wrong::named(name).ok_or_else(|| format!("{name} is no wrong engine"))?;
+            let input = input(script::INPUT_BYTES)?;
+            write(&player::play_unwatched(wrong.engine, &input))
         }
         ("mailbox", []) => write(&mailbox::mailbox(&input(mailbox::INPUT_BYTES)?)),
         ("show", []) => write(show::script(&input(script::INPUT_BYTES)?).as_bytes()),
@@ -60,7 +54,7 @@ fn command(words: &[String]) -> Result<bool, String> {
             let engine: PathBuf = option(rest, "--engine")?.ok_or(USAGE)?.into();
             mailbox_campaign(&engine, count(rest, "--count", 200)?)
         }
-        ("wrong", rest) => Ok(wrong(count(rest, "--count", 1_000)?)),
+        ("wrong", rest) => Ok(wrong_engines(count(rest, "--count", 1_000)?)),
         _ => Err(USAGE.into()),
     }
 }
@@ -103,20 +97,20 @@ fn count(words: &[String], name: &str, otherwise: u64) -> Result<u64, String> {
     option(words, name)?.map_or(Ok(otherwise), number)
 }
 
-fn wrong(count: u64) -> bool {
+fn wrong_engines(count: u64) -> bool {
     println!("scripts  book  wrong engine");
     let told = |scripts: Option<u64>| scripts.map_or("-".into(), |n| n.to_string());
     let mut engines = 0;
     let mut missed = 0;
-    wrong_engines(count, |caught| {
+    wrong::caught(count, |caught| {
         engines += 1;
         missed += u64::from(caught.scripts.is_none());
         println!(
-            "{:>7}  {:>4}  {:?}: {}",
+            "{:>7}  {:>4}  {}: {}",
             told(caught.scripts),
             told(caught.book),
-            caught.wrong,
-            caught.wrong.says()
+            caught.wrong.name,
+            caught.wrong.says
         );
     });
     println!("{engines} wrong engines, {missed} not caught within {count} scripts");

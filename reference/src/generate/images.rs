@@ -3,39 +3,45 @@
 use super::Maker;
 use crate::layout::*;
 use crate::mailbox::booted;
-use crate::script::Op;
+use crate::script::{Op, LENT_WORDS};
 
 /// Well formed: the root at 5, retired; node 9 below it, retired; node 2 below
 /// node 9, the holder, of type RTJM. Node 0 is free.
 pub fn odd_image_1() -> Vec<u32> {
-    let mut image = booted(&[0x11; 48], &[0x22; 48]);
-    let root: Vec<u32> = image[node(0)..node(1)].to_vec();
+    let mut image = booted();
+    image.copy_within(node(0)..node(1), node(5));
     image[node(0)..node(1)].fill(0);
-    image[node(5)..node(6)].copy_from_slice(&root);
-    image[node(5) + HANDLE..][..HANDLE_WORDS].fill(u32::MAX);
+    retire(&mut image, 5);
     image[node(9)] = 0x0005_0001;
-    image[node(9) + HANDLE..][..HANDLE_WORDS].fill(u32::MAX);
+    retire(&mut image, 9);
     image[node(2)] = 0x0009_0001;
-    image[node(2) + 1] = 7;
+    image[node(2) + TAG] = 7;
     image[node(2) + TYPE] = RTJM;
     image[node(2) + LOCALITY] = 4;
     image
 }
 
-/// Well formed with exactly 23 steps: node i's parent is i + 1, the root is
-/// node 23 and node 0 the holder.
+/// Well formed with as many steps as there may be: node i's parent is i + 1,
+/// the root is the last node and node 0 the holder.
 pub fn odd_image_2() -> Vec<u32> {
-    let mut image = booted(&[0x11; 48], &[0x22; 48]);
-    let root: Vec<u32> = image[node(0)..node(1)].to_vec();
-    image[node(NODES - 1)..].copy_from_slice(&root);
+    let mut image = booted();
+    image.copy_within(node(0)..node(1), node(NODES - 1));
     for index in 0..NODES - 1 {
         image[node(index)..node(index + 1)].fill(0);
         image[node(index)] = (index as u32 + 1) << 16 | USED;
     }
     for index in 1..NODES {
-        image[node(index) + HANDLE..][..HANDLE_WORDS].fill(u32::MAX);
+        retire(&mut image, index);
     }
     image
+}
+
+fn set_handle(image: &mut [u32], index: usize, handle: [u32; HANDLE_WORDS]) {
+    image[node(index) + HANDLE..][..HANDLE_WORDS].copy_from_slice(&handle);
+}
+
+fn retire(image: &mut [u32], index: usize) {
+    set_handle(image, index, RETIRED_HANDLE);
 }
 
 /// An image in the making, with what the damage needs to know.
@@ -107,11 +113,12 @@ impl Maker {
     }
 
     fn image_of_wrong_length(&mut self) -> Vec<u32> {
-        let length = self
-            .random
-            .pick(&[0, 1, 2, 1_215, 1_215, 1_217, 1_217, 4_096, 4_096, 4_096]);
-        let length = if length == 4_096 && self.size > 2_500 {
-            1_214
+        let (short, long) = (IMAGE_WORDS - 1, IMAGE_WORDS + 1);
+        let length = self.random.pick(&[
+            0, 1, 2, short, short, long, long, LENT_WORDS, LENT_WORDS, LENT_WORDS,
+        ]);
+        let length = if length == LENT_WORDS && self.size > 2_500 {
+            short - 1
         } else {
             length
         };
@@ -156,22 +163,26 @@ impl Maker {
             } else {
                 used[above] as u32
             };
-            let handle = if place == holder { 0 } else { u32::MAX };
+            let handle = if place == holder {
+                DEFAULT_HANDLE
+            } else {
+                RETIRED_HANDLE
+            };
             let kind = self.word();
-            let node = &mut words[node(index)..node(index) + NODE_WORDS];
+            let node = &mut words[node(index)..][..NODE_WORDS];
             node.copy_from_slice(&self.random.words(NODE_WORDS));
             node[0] = parent << 16 | USED;
-            node[HANDLE..HANDLE + HANDLE_WORDS].fill(handle);
+            node[HANDLE..][..HANDLE_WORDS].copy_from_slice(&handle);
             node[FLAGS] = if place == 0 { INTERNAL } else { 0 };
             node[TYPE] = if place == 0 { RTJM } else { kind };
         }
         let current = node(used[0]) + NODE_CURRENT;
         words.copy_within(current..current + DIGEST_WORDS, register(JOURNEY));
         if self.random.once_in(3) {
-            words[2..4].fill(0);
+            words[SPARE..SECRET].fill(0);
         }
         if self.random.once_in(4) {
-            words[SECRET..SECRET + DIGEST_WORDS].fill(0);
+            words[SECRET..][..DIGEST_WORDS].fill(0);
         }
         Drawn {
             words,
@@ -249,9 +260,9 @@ impl Maker {
                 if let Some(other) = other {
                     let old = words[node(other)] >> 16;
                     let odd = self.random.pick(&[
-                        24,
-                        25,
-                        31,
+                        NODES as u32,
+                        NODES as u32 + 1,
+                        0x0040,
                         0x00FE,
                         0xFFFF,
                         0x01FF,
@@ -325,7 +336,6 @@ impl Maker {
             27 => {
                 // Only one word of the holder's, or all but one of another's.
                 let at = node(drawn.holder) + HANDLE;
-                words[at..at + HANDLE_WORDS].fill(0);
                 words[at + self.random.below(HANDLE_WORDS)] = u32::MAX;
             }
             28 | 29 => {
@@ -335,9 +345,9 @@ impl Maker {
                 } else {
                     any_used
                 };
-                words[node(second) + HANDLE..][..HANDLE_WORDS].fill(0);
+                set_handle(words, second, DEFAULT_HANDLE);
             }
-            30 => words[node(drawn.holder) + HANDLE..][..HANDLE_WORDS].fill(u32::MAX),
+            30 => retire(words, drawn.holder),
             31 => {
                 let at = root + NODE_CURRENT + self.random.below(DIGEST_WORDS);
                 words[at] ^= 1 << self.random.below(32);
@@ -378,13 +388,12 @@ impl Maker {
                 _ => self.push_disable(),
             }
             if self.random.once_in(4) {
-                let part = self.random.between(0, 62) as u32;
-                self.push(Op::Store(part));
+                let part = self.random.between(0, UPDATE_STORES);
+                self.push_stores(part);
                 self.push(Op::Dump);
             }
             self.finish();
-            let size = self.answer_size();
-            self.push(Op::Answer(size));
+            self.push_answer();
             self.push(Op::Dump);
         }
         if self.random.once_in(3) {

@@ -15,9 +15,9 @@ enum Opening {
 impl Opening {
     fn number(self) -> usize {
         match self {
-            Opening::Stash => 53,
-            Opening::Disable => 15,
-            Opening::Update => 62,
+            Opening::Stash => STASH_STORES,
+            Opening::Disable => DISABLING_STORES,
+            Opening::Update => UPDATE_STORES,
         }
     }
 }
@@ -48,14 +48,13 @@ impl Maker {
         let in_turn = self.seed as usize / 8 * 4 + self.seed as usize % 8 * 2 + turn;
         for position in [2 * in_turn, 2 * in_turn + 1] {
             self.push_cold();
-            self.push(Op::Store((position % 1_218) as u32));
+            self.push_stores(position % (COLD_STORES + 1));
             self.push(Op::Cut);
             self.push(Op::Dump);
             let yes = self.random.once_in(2);
             self.push_update(yes);
         }
-        self.push_cold();
-        self.push(Op::Store(1_217));
+        self.push_booted();
         let before = self.random.below(3);
         self.fill(before);
         let kinds = [Opening::Stash, Opening::Disable, Opening::Update];
@@ -68,7 +67,7 @@ impl Maker {
             }
             position -= kind.number() + 1;
         }
-        self.push(Op::Store(position as u32));
+        self.push_stores(position);
         if self.random.once_in(2) {
             self.push(Op::Left);
             self.push(Op::Dump);
@@ -83,7 +82,7 @@ impl Maker {
     /// A list that fills the nodes.
     pub(super) fn long_list(&mut self) {
         self.cold_boot();
-        let before = self.random.between(20, 23);
+        let before = self.random.between(NODES - 4, NODES - 1);
         self.fill(before);
         self.push(Op::Dump);
         for _ in 0..self.random.between(1, 5) {
@@ -106,8 +105,8 @@ impl Maker {
         if self.random.once_in(2) {
             self.turn += 1;
             self.push_cold();
-            let position = (self.seed * 7 + self.turn * 313) % 1_218;
-            self.push(Op::Store(position as u32));
+            let position = (self.seed * 7 + self.turn * 313) as usize % (COLD_STORES + 1);
+            self.push_stores(position);
             self.peek();
             if self.random.once_in(3) {
                 // Over it, without a cut.
@@ -126,7 +125,7 @@ impl Maker {
     fn fill(&mut self, count: usize) {
         for _ in 0..count {
             self.push_stash();
-            self.push(Op::Store(53));
+            self.push_stores(STASH_STORES);
         }
     }
 
@@ -209,7 +208,7 @@ impl Maker {
                 self.push(Op::Left);
             }
         } else {
-            self.push(Op::Store(position as u32));
+            self.push_stores(position);
         }
         if self.random.once_in(2) {
             self.push(Op::Dump);
@@ -252,9 +251,9 @@ impl Maker {
         while self.random.once_in(2) {
             let yes = !self.random.once_in(3);
             self.push_update(yes);
-            let most = self.random.pick(&[15, 62]);
+            let most = self.random.pick(&[DISABLING_STORES, UPDATE_STORES]);
             let position = self.random.between(0, most);
-            self.push(Op::Store(position as u32));
+            self.push_stores(position);
             if self.random.once_in(2) {
                 self.push(Op::Cut);
             }
@@ -276,8 +275,7 @@ impl Maker {
             let table = self.good_table();
             self.push_request(IDENTITY, &[], table, false);
         } else {
-            let body = self.random.bytes(192);
-            self.push_request(VERIFY, &body, Vec::new(), true);
+            self.push_verify(true);
         }
     }
 }
