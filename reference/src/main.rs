@@ -17,7 +17,9 @@ const USAGE: &str = "usage: reference COMMAND
                            as many more as M operations take
   mailbox-campaign --engine PATH [--count N]
                            compares a small program on N inputs
-  wrong [--count N]        how many scripts catch each wrong engine";
+  wrong [--count N]        how many scripts catch each wrong engine
+  engines                  a table of all that is wrong on purpose
+  help                     this text";
 
 fn main() -> ExitCode {
     let words: Vec<String> = std::env::args().skip(1).collect();
@@ -34,6 +36,7 @@ fn main() -> ExitCode {
 fn command(words: &[String]) -> Result<bool, String> {
     let (name, rest) = words.split_first().ok_or(USAGE)?;
     match (name.as_str(), rest) {
+        ("help" | "--help", []) => write(format!("{USAGE}\n").as_bytes()),
         ("play", []) => write(&player::play(&input(script::INPUT_BYTES)?)),
         ("play", [name]) => {
             let wrong = wrong::named(name).ok_or_else(|| format!("{name} is no wrong engine"))?;
@@ -46,15 +49,16 @@ fn command(words: &[String]) -> Result<bool, String> {
         ("campaign", rest) => campaign(&Options {
             engine: option(rest, "--engine")?.ok_or(USAGE)?.into(),
             from: count(rest, "--from", 0)?,
-            count: count(rest, "--count", 1_000)?,
+            count: some(rest, "--count", 1_000)?,
             operations: count(rest, "--calls", 0)?,
             keep: option(rest, "--keep")?.unwrap_or("target/campaign").into(),
         }),
         ("mailbox-campaign", rest) => {
             let engine: PathBuf = option(rest, "--engine")?.ok_or(USAGE)?.into();
-            mailbox_campaign(&engine, count(rest, "--count", 200)?)
+            mailbox_campaign(&engine, some(rest, "--count", 200)?)
         }
-        ("wrong", rest) => Ok(wrong_engines(count(rest, "--count", 1_000)?)),
+        ("wrong", rest) => Ok(wrong_engines(some(rest, "--count", 1_000)?)),
+        ("engines", []) => write(wrong::table().as_bytes()),
         _ => Err(USAGE.into()),
     }
 }
@@ -95,6 +99,14 @@ fn option<'a>(words: &'a [String], name: &str) -> Result<Option<&'a str>, String
 
 fn count(words: &[String], name: &str, otherwise: u64) -> Result<u64, String> {
     option(words, name)?.map_or(Ok(otherwise), number)
+}
+
+/// As `count`; 0 would show nothing.
+fn some(words: &[String], name: &str, otherwise: u64) -> Result<u64, String> {
+    match count(words, name, otherwise)? {
+        0 => Err(format!("{name} 0 shows nothing")),
+        number => Ok(number),
+    }
 }
 
 fn wrong_engines(count: u64) -> bool {

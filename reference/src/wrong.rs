@@ -16,6 +16,7 @@ mod works;
 
 pub use caught::{caught, Caught};
 
+use crate::book::wrong::BOOKS;
 use crate::engine::Engine;
 
 /// A wrong engine.
@@ -61,6 +62,31 @@ pub const GROUPS: &[Group] = &[
 pub fn named(name: &str) -> Option<&'static Wrong> {
     let mut engines = GROUPS.iter().flat_map(|group| group.engines);
     engines.find(|wrong| wrong.name == name)
+}
+
+/// All names and what they do instead, as a table in Markdown.
+pub fn table() -> String {
+    let mut text = "| Wrong on purpose | What it does instead |\n|---|---|\n".to_string();
+    for group in GROUPS {
+        text += &title(group.title);
+        text.extend(
+            group
+                .engines
+                .iter()
+                .map(|wrong| row(wrong.name, wrong.says)),
+        );
+    }
+    text += &title("The book");
+    text.extend(BOOKS.iter().map(|book| row(book.name, book.says)));
+    text
+}
+
+fn title(title: &str) -> String {
+    format!("| **{title}** | |\n")
+}
+
+fn row(name: &str, says: &str) -> String {
+    format!("| `{name}` | {says} |\n")
 }
 
 /// A list of engines: a name, what it says, and for each part that is wrong the

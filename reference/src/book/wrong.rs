@@ -29,29 +29,61 @@ pub struct Fair;
 
 impl Keeper for Fair {}
 
-/// Every wrong keeper with its name.
-pub const ALL: [(&str, &dyn Keeper); 9] = [
-    ("OffBeforeGoes", &OffBeforeGoes),
-    ("TornByCutsOnly", &TornByCutsOnly),
-    ("TornUnstarted", &TornUnstarted),
-    ("NeverTorn", &NeverTorn),
-    ("StaysUnfinished", &StaysUnfinished),
-    ("RefusalDropsWork", &RefusalDropsWork),
-    (
+/// A wrong book: its name, what it does instead, and its keeper.
+pub struct WrongBook {
+    pub name: &'static str,
+    pub says: &'static str,
+    pub keeper: &'static dyn Keeper,
+}
+
+const fn book(name: &'static str, says: &'static str, keeper: &'static dyn Keeper) -> WrongBook {
+    WrongBook { name, says, keeper }
+}
+
+pub const BOOKS: &[WrongBook] = &[
+    book(
+        "OffBeforeGoes",
+        "an update boot looks at off before the work in hand goes",
+        &OffBeforeGoes,
+    ),
+    book(
+        "TornByCutsOnly",
+        "only a cut tears, not another opening",
+        &TornByCutsOnly,
+    ),
+    book(
+        "TornUnstarted",
+        "a work that has not stored yet is torn too",
+        &TornUnstarted,
+    ),
+    book("NeverTorn", "nothing is ever torn", &NeverTorn),
+    book(
+        "StaysUnfinished",
+        "the last store leaves the book unfinished",
+        &StaysUnfinished,
+    ),
+    book(
+        "RefusalDropsHand",
+        "a refused opening drops the work in hand",
+        &RefusalDropsHand,
+    ),
+    book(
         "DisableForgotten",
+        "a counted disable command is left out of the history",
         &Forgotten(|event| matches!(event, Event::DisableCommand)),
     ),
-    (
+    book(
         "StashForgotten",
+        "a counted stash is left out of the history",
         &Forgotten(|event| matches!(event, Event::Stash(_))),
     ),
-    (
+    book(
         "UpdateForgotten",
+        "a counted update is left out of the history",
         &Forgotten(|event| matches!(event, Event::Update(_))),
     ),
 ];
 
-/// An update boot looks at off before the work in hand goes.
 struct OffBeforeGoes;
 
 impl Keeper for OffBeforeGoes {
@@ -67,7 +99,6 @@ impl Keeper for OffBeforeGoes {
     }
 }
 
-/// Only a cut tears, not another opening.
 struct TornByCutsOnly;
 
 impl Keeper for TornByCutsOnly {
@@ -77,7 +108,6 @@ impl Keeper for TornByCutsOnly {
     }
 }
 
-/// A work that has not stored yet is torn too.
 struct TornUnstarted;
 
 impl Keeper for TornUnstarted {
@@ -101,7 +131,6 @@ impl Keeper for TornUnstarted {
     }
 }
 
-/// Nothing is ever torn.
 struct NeverTorn;
 
 impl Keeper for NeverTorn {
@@ -115,7 +144,6 @@ impl Keeper for NeverTorn {
     }
 }
 
-/// The last store leaves the book unfinished.
 struct StaysUnfinished;
 
 impl Keeper for StaysUnfinished {
@@ -127,10 +155,9 @@ impl Keeper for StaysUnfinished {
     }
 }
 
-/// A refused opening drops the work in hand.
-struct RefusalDropsWork;
+struct RefusalDropsHand;
 
-impl Keeper for RefusalDropsWork {
+impl Keeper for RefusalDropsHand {
     fn request(&self, book: &mut Book, request: Request) -> Opened {
         let opened = book.request(request);
         if opened.number != 0 {
@@ -148,7 +175,7 @@ impl Keeper for RefusalDropsWork {
     }
 }
 
-/// Counted work of this kind is left out of the history.
+/// Leaves counted work of a kind out.
 struct Forgotten(fn(&Event) -> bool);
 
 impl Keeper for Forgotten {
