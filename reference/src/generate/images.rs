@@ -57,6 +57,9 @@ struct Drawn {
 /// A script with more bytes gets no further image.
 const MOST_BEFORE_IMAGE: usize = 13_000;
 
+/// A script with more bytes gets no two images at once.
+const MOST_BEFORE_TWINS: usize = 6_000;
+
 /// The sorts of damage.
 const FAULTS: usize = 36;
 
@@ -67,8 +70,13 @@ impl Maker {
                 break;
             }
             let words = self.image(turn);
-            self.push(Op::Image(words));
-            self.try_image();
+            let whole = words.len() == IMAGE_WORDS;
+            if whole && self.size < MOST_BEFORE_TWINS && self.random.once_in(12) {
+                self.push_twins(&words);
+            } else {
+                self.push(Op::Image(words));
+                self.try_image();
+            }
         }
     }
 
@@ -86,7 +94,7 @@ impl Maker {
                 let mut drawn = self.drawn();
                 let fault = (self.seed as usize / 4 * 5 + turn * 11) % FAULTS;
                 self.damage(&mut drawn, fault);
-                if self.random.once_in(10) {
+                if self.random.once_in(5) {
                     let fault = self.random.below(FAULTS);
                     self.damage(&mut drawn, fault);
                 }
@@ -380,6 +388,11 @@ impl Maker {
         if self.random.once_in(4) {
             self.push_any_request();
             self.peek();
+        }
+        if self.random.once_in(4) {
+            // Neither attestation nor the tree counts.
+            self.push_small_request();
+            self.push(Op::Answer(ANSWER_MAX as u16));
         }
         for _ in 0..self.random.between(1, 3) {
             match self.random.below(6) {

@@ -10,13 +10,15 @@ enum Opening {
     Stash,
     Disable,
     Update,
+    /// An update boot of a unit that a command has disabled.
+    BootDisabling,
 }
 
 impl Opening {
     fn number(self) -> usize {
         match self {
             Opening::Stash => STASH_STORES,
-            Opening::Disable => DISABLING_STORES,
+            Opening::Disable | Opening::BootDisabling => DISABLING_STORES,
             Opening::Update => UPDATE_STORES,
         }
     }
@@ -57,7 +59,12 @@ impl Maker {
         self.push_booted();
         let before = self.random.below(3);
         self.fill(before);
-        let kinds = [Opening::Stash, Opening::Disable, Opening::Update];
+        let kinds = [
+            Opening::Stash,
+            Opening::Disable,
+            Opening::Update,
+            Opening::BootDisabling,
+        ];
         let all: usize = kinds.iter().map(|kind| kind.number() + 1).sum();
         let mut position = in_turn % all;
         for kind in kinds {
@@ -180,6 +187,12 @@ impl Maker {
             Opening::Stash => self.push_stash(),
             Opening::Disable => self.push_disable(),
             Opening::Update => self.push_update(true),
+            Opening::BootDisabling => {
+                self.push_disable();
+                self.push_stores(DISABLING_STORES);
+                let yes = self.random.once_in(2);
+                self.push_update(yes);
+            }
         }
     }
 
@@ -270,7 +283,7 @@ impl Maker {
     }
 
     /// A request that changes nothing, accepted.
-    fn push_small_request(&mut self) {
+    pub(super) fn push_small_request(&mut self) {
         if self.size < super::ENOUGH && self.random.once_in(3) {
             let table = self.good_table();
             self.push_request(IDENTITY, &[], table, false);

@@ -81,12 +81,39 @@ impl Maker {
     }
 
     pub(super) fn push_stash(&mut self) {
-        let mut body = self.word().to_le_bytes().to_vec();
-        body.extend(self.digest());
-        body.extend(self.word().to_le_bytes());
+        let body = self.stash_body();
         let table = self.idle_table();
         let yes = self.random.once_in(2);
         self.push_request(STASH, &body, table, yes);
+    }
+
+    /// A stash's type, digest and svn.
+    fn stash_body(&mut self) -> Vec<u8> {
+        let mut body = self.word().to_le_bytes().to_vec();
+        body.extend(self.digest());
+        body.extend(self.word().to_le_bytes());
+        body
+    }
+
+    /// Two whole stashes on the same image, alike but for the svn.
+    pub(super) fn push_twins(&mut self, image: &[u32]) {
+        let mut body = self.stash_body();
+        let caller = self.word();
+        for _ in 0..2 {
+            self.push(Op::Image(image.to_vec()));
+            let mail = Mail {
+                code: STASH,
+                caller,
+                verdict: 0,
+                table: Vec::new(),
+                bytes: sealed(STASH, &body),
+            };
+            self.push(Op::Request(mail));
+            self.push_stores(STASH_STORES);
+            self.push(Op::Answer(12));
+            self.push(Op::Dump);
+            body[STASH_SVN - CHECKSUM_BYTES] ^= 0xFF;
+        }
     }
 
     pub(super) fn push_disable(&mut self) {
@@ -95,8 +122,11 @@ impl Maker {
         self.push_request(DISABLE, &[], table, yes);
     }
 
-    /// A table that no rule looks at.
+    /// A table that no rule looks at: mostly short, now and then like a real one.
     fn idle_table(&mut self) -> Vec<u8> {
+        if self.size < super::ENOUGH && self.random.once_in(60) {
+            return self.any_table();
+        }
         let length = self.random.pick(&[0, 0, 0, 0, 1, 8]);
         self.random.bytes(length)
     }
@@ -106,6 +136,13 @@ impl Maker {
         table[..4].copy_from_slice(&TABLE_MARKER.to_le_bytes());
         table[4..6].copy_from_slice(&TABLE_MAJOR.to_le_bytes());
         table
+    }
+
+    fn any_table(&mut self) -> Vec<u8> {
+        match self.random.below(3) {
+            0 => self.good_table(),
+            _ => self.bad_table(),
+        }
     }
 
     fn bad_table(&mut self) -> Vec<u8> {
@@ -254,11 +291,7 @@ impl Maker {
 
     /// An identity key with a table that may be damaged, as may its checksum.
     fn push_identity(&mut self) {
-        let table = if self.random.once_in(3) {
-            self.good_table()
-        } else {
-            self.bad_table()
-        };
+        let table = self.any_table();
         let mut bytes = sealed(IDENTITY, &[]);
         if self.random.once_in(6) {
             spoil(&mut self.random, IDENTITY, &mut bytes);

@@ -71,7 +71,8 @@ impl Maker {
             self.set(3, length);
             let node = self.random.below(NODES) as u64;
             self.set(1, node);
-            let holder = self.random.below(NODES) as u64;
+            let other = self.random.below(NODES) as u64;
+            let holder = self.random.pick(&[other, other, node]);
             self.set(2, holder);
             let position = self.random.pick(&[0, 0, number / 2, number]);
             self.set(0, position);
@@ -79,6 +80,7 @@ impl Maker {
             self.finish();
             self.push_answer();
             self.push(Op::Dump);
+            self.spoil_finished(number, length);
         }
         if self.random.once_in(3) {
             let yes = self.random.once_in(2);
@@ -87,6 +89,26 @@ impl Maker {
         }
         if self.random.once_in(4) {
             self.push_booted();
+        }
+    }
+
+    /// A finished work with one part past its bound, and mended again; then all
+    /// its stores once more, on the image that they have changed.
+    fn spoil_finished(&mut self, number: u64, length: u64) {
+        self.set(0, number);
+        let (nodes, most) = (NODES as u64, ANSWER_MAX as u64);
+        for (field, past, fine) in [(3, most + 1, length), (1, nodes, 0), (2, nodes, 0)] {
+            self.set(field, past);
+            self.push(Op::Left);
+            self.push(Op::Store(1));
+            self.push(Op::Answer(ANSWER_MAX as u16));
+            self.set(field, fine);
+        }
+        self.push(Op::Answer(ANSWER_MAX as u16));
+        if self.random.once_in(2) {
+            self.set(0, 0);
+            self.finish();
+            self.push(Op::Dump);
         }
     }
 

@@ -76,6 +76,25 @@ IdentityWhenOn: "an identity key is refused with attestation off"
     }
 }
 
+IdentityNeedsTree: "an identity key is refused when the tree is not well formed"
+[requests: Requests] {
+    fn order(&self, view: &View, request: Request) -> Vec<Refusal> {
+        let mut order = Paper.order(view, request);
+        order.push((number::TABLE, request.code == IDENTITY && !view.well_formed));
+        order
+    }
+}
+
+TableForAll: "every command looks at a handoff table that is lent"
+[requests: Requests] {
+    fn order(&self, view: &View, request: Request) -> Vec<Refusal> {
+        let mut order = Paper.order(view, request);
+        let lent = request.table.len() >= TABLE_BYTES;
+        order.push((number::TABLE, lent && !self.table_fine(request.table)));
+        order
+    }
+}
+
 LengthAtLeast: "a longer request is accepted"
 [requests: Requests] {
     fn length_fine(&self, code: u32, bytes: &[u8]) -> bool {

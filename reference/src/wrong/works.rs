@@ -83,6 +83,26 @@ NodePastEnd: "the index behind the last node is taken as it stands"
     }
 }
 
+SameNodeRefused: "a stash whose node is its holder is damaged"
+[works: Works] {
+    fn is_sound(&self, work: &Work) -> bool {
+        let same = matches!(work.kind, Kind::Stash { node, holder } if node == holder);
+        Paper.is_sound(work) && !same
+    }
+}
+
+CumulativeAtStore: "the root's cumulative is extended when its work starts to store"
+[works: Works] {
+    fn store(&self, work: &mut Work, image: &mut [u32]) -> u32 {
+        let number = Paper.store(work, image);
+        if let (0, 1, Kind::Update { root }) = (number, work.position, work.kind) {
+            let old = bytes_of(&node_of(image, root as usize)[NODE_CUMULATIVE..]);
+            work.set_node(NODE_CUMULATIVE, &extended(&old, &bytes_of(&work.journey)));
+        }
+        number
+    }
+}
+
 PositionPast: "a position past the number is finished"
 [works: Works] {
     fn answer(&self, work: &Work, buffer: &mut [u8]) -> u32 {
