@@ -327,67 +327,81 @@ impl Book {
 
     /// Demand 3 at a look, against the image.
     pub fn look(&mut self, _look: Look, image: &[u32]) -> Result<(), String> {
-        let on = image[ATTESTATION] == ON;
-        if self.torn {
-            if !is_shut(image) {
-                return Err("a work was torn, and attestation is on or the secret stands".into());
-            }
-            self.off_for_good = true;
-        } else {
-            let disabled = self.history.contains(&Event::DisableCommand);
-            if on == disabled {
-                return Err(format!(
-                    "none was torn, a disable command has{} counted, and attestation is {}",
-                    if disabled { "" } else { " not" },
-                    if on { "on" } else { "off" },
-                ));
-            }
-        }
-        let state = State::replay(&self.history);
-        if state != self.state {
+        if State::replay(&self.history) != self.state {
             return Err("the book's state is not its history's".into());
         }
-        if on {
-            // More than demand 3 asks: the secret is the last counted boot's.
-            let secret = self.history.iter().rev().find_map(|event| match event {
-                Event::Cold(boot) | Event::Update(boot) => Some(boot.secret),
-                _ => None,
+        if self.torn {
+            self.off_for_good = true;
+            return claim(is_shut(image), || {
+                "a work was torn, and attestation is on or the secret stands".into()
             });
-            if secret != Some(bytes_of(&image[SECRET..])) {
-                return Err("the secret is not the last counted boot's".into());
-            }
-            let words = state.words();
-            if let Some(i) = (0..words.len()).find(|&i| words[i] != image[REGISTERS_AT + i]) {
-                return Err(format!(
-                    "word {} is 0x{:08X} and the book has 0x{:08X}",
-                    REGISTERS_AT + i,
-                    image[REGISTERS_AT + i],
-                    words[i]
-                ));
-            }
         }
-        Ok(())
+        let on = image[ATTESTATION] == ON;
+        let disabled = self.history.contains(&Event::DisableCommand);
+        claim(on != disabled, || {
+            format!("none was torn; on: {on}, a disable command has counted: {disabled}")
+        })?;
+        self.is_shown(image)
     }
 
     /// At every point: the mark is the book's, and no call changes what a look
-    /// with a torn work found.
+    /// with a torn work found. More than demand 3 asks: with no work under way
+    /// and none ever torn, the image shows the book.
     pub fn at_every_point(&self, image: &[u32]) -> Result<(), String> {
-        if (image[MARK] == DONE) == self.unfinished {
-            return Err(format!(
-                "the mark is {} and the book is {}",
-                image[MARK],
-                if self.unfinished {
-                    "unfinished"
-                } else {
-                    "finished"
-                },
-            ));
+        let (mark, unfinished) = (image[MARK], self.unfinished);
+        claim((mark == DONE) != unfinished, || {
+            format!("the mark is {mark}; the book is unfinished: {unfinished}")
+        })?;
+        claim(!self.off_for_good || is_shut(image), || {
+            "a later call undid the disabling after a torn work".into()
+        })?;
+        if self.torn || self.unfinished {
+            return Ok(());
         }
-        if self.off_for_good && !is_shut(image) {
-            return Err("a later call undid the disabling after a torn work".into());
-        }
-        Ok(())
+        self.is_shown(image)
     }
+
+    /// Attestation, secret, registers and nodes are the book's.
+    fn is_shown(&self, image: &[u32]) -> Result<(), String> {
+        let on = !self.is_off();
+        claim((image[ATTESTATION] == ON) == on, || {
+            format!(
+                "attestation is {}; the book is on: {on}",
+                image[ATTESTATION]
+            )
+        })?;
+        claim(bytes_of(&image[SECRET..]) == self.secret(), || {
+            "the secret is not the book's".into()
+        })?;
+        let words = self.state.words();
+        let differs = (0..words.len()).find(|&i| words[i] != image[REGISTERS_AT + i]);
+        differs.map_or(Ok(()), |i| {
+            let word = REGISTERS_AT + i;
+            let (found, expected) = (image[word], words[i]);
+            Err(format!(
+                "word {word} is 0x{found:08X} and the book has 0x{expected:08X}"
+            ))
+        })
+    }
+
+    /// The last counted boot's, or zero when off.
+    fn secret(&self) -> Digest {
+        if self.is_off() {
+            return ZERO;
+        }
+        let last_boot = self.history.iter().rev().find_map(|event| match event {
+            Event::Cold(boot) | Event::Update(boot) => Some(boot.secret),
+            _ => None,
+        });
+        last_boot.unwrap_or(ZERO)
+    }
+}
+
+fn claim(holds: bool, otherwise: impl Fn() -> String) -> Result<(), String> {
+    if holds {
+        return Ok(());
+    }
+    Err(otherwise())
 }
 
 /// Attestation off and the secret zero.

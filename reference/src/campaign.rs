@@ -182,53 +182,88 @@ fn longest_operations() -> Vec<Op> {
     ]
 }
 
+/// Scripts from a seed on, until enough of them and of their operations are made.
+struct Scripts<'a> {
+    options: &'a Options,
+    seed: u64,
+    /// Made, and too long for the batch before.
+    waiting: Option<Script>,
+    scripts: u64,
+    operations: u64,
+}
+
+impl Scripts<'_> {
+    fn are_enough_with(&self, batch: &Batch) -> bool {
+        self.scripts + batch.seeds.len() as u64 >= self.options.count
+            && self.operations + batch.operations >= self.options.operations
+    }
+
+    fn next_batch(&mut self) -> Option<Batch> {
+        let mut batch = Batch::new();
+        while !self.are_enough_with(&batch) {
+            let next = self.waiting.take().unwrap_or_else(|| script(self.seed));
+            if !batch.has_room_for(next.bytes().len()) {
+                self.waiting = Some(next);
+                break;
+            }
+            batch.add(self.seed, &next);
+            self.seed += 1;
+        }
+        self.scripts += batch.seeds.len() as u64;
+        self.operations += batch.operations;
+        (!batch.seeds.is_empty()).then_some(batch)
+    }
+}
+
 /// Compares a driver with the player. False if one script differs.
 pub fn campaign(options: &Options) -> Result<bool, String> {
-    let mut scripts = 0;
-    let mut operations = 0;
-    let mut shown = Instant::now();
     is_program(&options.engine)?;
-    for (count, input) in long_inputs().iter().enumerate() {
-        if differs(&options.engine, input) {
-            report(options, &format!("long-{count}"), input);
-            return Ok(false);
-        }
+    if !long_inputs_agree(options) {
+        return Ok(false);
     }
-    let mut seed = options.from;
-    let mut waiting = None;
-    while scripts < options.count || operations < options.operations {
-        let mut batch = Batch::new();
-        loop {
-            let next = waiting.take().unwrap_or_else(|| script(seed));
-            if !batch.has_room_for(next.bytes().len()) {
-                waiting = Some(next);
-                break;
-            }
-            batch.add(seed, &next);
-            seed += 1;
-            let made = scripts + batch.seeds.len() as u64;
-            if made >= options.count && operations + batch.operations >= options.operations {
-                break;
-            }
-        }
+    let mut all = Scripts {
+        options,
+        seed: options.from,
+        waiting: None,
+        scripts: 0,
+        operations: 0,
+    };
+    let mut shown = Instant::now();
+    let mut found = None;
+    while let (None, Some(batch)) = (&found, all.next_batch()) {
         if run(&options.engine, &batch.input).as_ref() != Ok(&batch.expected) {
-            find_difference(options, &batch);
+            found = Some(batch);
+        } else if shown.elapsed() > PROGRESS {
             println!(
-                "{} scripts, {} operations, differences found",
-                scripts + batch.seeds.len() as u64,
-                operations + batch.operations
+                "{} scripts, {} operations so far",
+                all.scripts, all.operations
             );
-            return Ok(false);
-        }
-        scripts += batch.seeds.len() as u64;
-        operations += batch.operations;
-        if shown.elapsed() > PROGRESS {
-            println!("{scripts} scripts, {operations} operations so far");
             shown = Instant::now();
         }
     }
-    println!("{scripts} scripts, {operations} operations, 0 differences");
-    Ok(true)
+    let differences = match &found {
+        None => "0 differences",
+        Some(batch) => {
+            find_difference(options, batch);
+            "differences found"
+        }
+    };
+    println!(
+        "{} scripts, {} operations, {differences}",
+        all.scripts, all.operations
+    );
+    Ok(found.is_none())
+}
+
+fn long_inputs_agree(options: &Options) -> bool {
+    let inputs = long_inputs();
+    let different = inputs
+        .iter()
+        .position(|input| differs(&options.engine, input));
+    if let Some(count) = different {
+        report(options, &format!("long-{count}"), &inputs[count]);
+    }
+    different.is_none()
 }
 
 fn is_program(path: &Path) -> Result<(), String> {
