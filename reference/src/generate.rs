@@ -1,6 +1,7 @@
 //! Scripts by seed. Each mixes pieces of five sorts and ends with the image.
 
 mod broken;
+mod damage;
 mod images;
 mod lists;
 mod requests;
@@ -208,25 +209,6 @@ impl Maker {
             1 => self.push(Op::Store(u32::MAX)),
             _ => self.push_stores(COLD_STORES),
         }
-    }
-
-    fn odd_word(&mut self) -> u32 {
-        let random = self.random.half();
-        self.random.pick(&[
-            0,
-            2,
-            3,
-            0x0100,
-            0x0101,
-            0x0001_0000,
-            0x0001_0001,
-            0x0100_0000,
-            0x0100_0001,
-            0x8000_0001,
-            0xFFFF_FFFF,
-            0xFFFF_FFFE,
-            random,
-        ])
     }
 
     /// A caller's number or a type.

@@ -1,5 +1,6 @@
 //! Images that no list reaches: trees of any shape, and damage of every sort.
 
+use super::damage::{Drawn, FAULTS};
 use super::Maker;
 use crate::layout::*;
 use crate::mailbox::booted;
@@ -36,22 +37,8 @@ pub fn odd_image_2() -> Vec<u32> {
     image
 }
 
-fn set_handle(image: &mut [u32], index: usize, handle: [u32; HANDLE_WORDS]) {
-    image[node(index) + HANDLE..][..HANDLE_WORDS].copy_from_slice(&handle);
-}
-
 fn retire(image: &mut [u32], index: usize) {
-    set_handle(image, index, RETIRED_HANDLE);
-}
-
-/// An image in the making, with what the damage needs to know.
-struct Drawn {
-    words: Vec<u32>,
-    root: usize,
-    holder: usize,
-    /// Used nodes other than the root.
-    others: Vec<usize>,
-    free: Vec<usize>,
+    image[node(index) + HANDLE..][..HANDLE_WORDS].copy_from_slice(&RETIRED_HANDLE);
 }
 
 /// A script with more bytes gets no further image.
@@ -59,9 +46,6 @@ const MOST_BEFORE_IMAGE: usize = 13_000;
 
 /// A script with more bytes gets no two images at once.
 const MOST_BEFORE_TWINS: usize = 6_000;
-
-/// The sorts of damage.
-const FAULTS: usize = 36;
 
 impl Maker {
     pub(super) fn images(&mut self, count: usize) {
@@ -92,11 +76,12 @@ impl Maker {
             }
             _ => {
                 let mut drawn = self.drawn();
-                let fault = (self.seed as usize / 4 * 5 + turn * 11) % FAULTS;
-                self.damage(&mut drawn, fault);
+                // The sorts of damage take turns from seed to seed.
+                let fault = (self.seed as usize / 4 * 5 + turn * 11) % FAULTS.len();
+                FAULTS[fault](&mut drawn, &mut self.random);
                 if self.random.once_in(5) {
-                    let fault = self.random.below(FAULTS);
-                    self.damage(&mut drawn, fault);
+                    let fault = self.random.pick(FAULTS);
+                    fault(&mut drawn, &mut self.random);
                 }
                 drawn.words
             }
@@ -198,176 +183,6 @@ impl Maker {
             holder: used[holder],
             others: used[1..].to_vec(),
             free: free.to_vec(),
-        }
-    }
-
-    fn damage(&mut self, drawn: &mut Drawn, fault: usize) {
-        let any_used = {
-            let place = self.random.below(drawn.others.len() + 1);
-            drawn.others.get(place).copied().unwrap_or(drawn.root)
-        };
-        let other = (!drawn.others.is_empty()).then(|| self.random.pick(&drawn.others));
-        let free = (!drawn.free.is_empty()).then(|| self.random.pick(&drawn.free));
-        let odd = self.odd_word();
-        let words = &mut drawn.words;
-        let root = node(drawn.root);
-        let parent = |words: &mut [u32], index: usize, parent: u32| {
-            words[node(index)] = parent << 16 | words[node(index)] & 0xFFFF;
-        };
-        match fault {
-            0 => words[MARK] = odd,
-            1 => words[ATTESTATION] = odd,
-            2 => {
-                // A used node's low half.
-                let low = self.random.pick(&[0, 2, 3, 0x0101, 0x8001, 0xFFFF]);
-                words[node(any_used)] = words[node(any_used)] & 0xFFFF_0000 | low;
-            }
-            3 => {
-                // A free node's low half.
-                if let Some(free) = free {
-                    words[node(free)] = self.random.pick(&[2, 4, 0x0100, 0x8000, 1, 0xFFFE]);
-                }
-            }
-            4 => {
-                // A free node's high half.
-                if let Some(free) = free {
-                    let high = self.random.pick(&[1, 5, 0x00FF, 0xFFFF, 0x8000]);
-                    words[node(free)] = high << 16;
-                }
-            }
-            5 | 6 => {
-                if let Some(free) = free {
-                    let at = self.random.between(1, NODE_WORDS - 1);
-                    words[node(free) + at] = self.random.pick(&[1, 0x8000_0000, u32::MAX]);
-                }
-            }
-            7 => {
-                if let Some(free) = free {
-                    words[node(free) + LOCALITY] = 1;
-                }
-            }
-            8 => {
-                // A second root, as it stands or dressed as one.
-                if let Some(other) = other {
-                    parent(words, other, ROOT_PARENT);
-                    if self.random.once_in(2) {
-                        words[node(other) + FLAGS] = INTERNAL;
-                        words[node(other) + TYPE] = RTJM;
-                    }
-                }
-            }
-            9 => {
-                // No root.
-                parent(words, drawn.root, other.unwrap_or(drawn.root) as u32);
-            }
-            10 => {
-                let odd = self.random.pick(&[0xFFFF, 0x01FF, 0xFF00, 0x00FE, 0x007F]);
-                parent(words, drawn.root, odd);
-            }
-            11 | 12 => {
-                if let Some(other) = other {
-                    let old = words[node(other)] >> 16;
-                    let odd = self.random.pick(&[
-                        NODES as u32,
-                        NODES as u32 + 1,
-                        0x0040,
-                        0x00FE,
-                        0xFFFF,
-                        0x01FF,
-                        0x0100 | old,
-                        0x0100 | old,
-                        0x8000 | old,
-                    ]);
-                    parent(words, other, odd);
-                }
-            }
-            13 => {
-                if let Some(other) = other {
-                    parent(words, other, other as u32);
-                }
-            }
-            14 | 15 => {
-                // A cycle of two, somewhere below the root.
-                if drawn.others.len() >= 2 {
-                    let place = self.random.between(1, drawn.others.len() - 1);
-                    let (one, two) = (drawn.others[place - 1], drawn.others[place]);
-                    parent(words, one, two as u32);
-                    parent(words, two, one as u32);
-                }
-            }
-            16 => {
-                // A longer cycle.
-                if let (Some(&first), Some(&last)) = (drawn.others.first(), drawn.others.last()) {
-                    let mut above = last;
-                    for &index in &drawn.others {
-                        parent(words, index, above as u32);
-                        above = index;
-                    }
-                    if self.random.once_in(2) && first != last {
-                        // Its entry from one node outside.
-                        parent(words, last, drawn.root as u32);
-                    }
-                }
-            }
-            17 => {
-                if let (Some(other), Some(free)) = (other, free) {
-                    parent(words, other, free as u32);
-                }
-            }
-            18 => {
-                if let Some(other) = other {
-                    words[node(other) + FLAGS] = INTERNAL;
-                }
-            }
-            19 => words[root + FLAGS] = 0,
-            20 => words[root + FLAGS] = INTERNAL | 1 << self.random.below(31),
-            21 => words[node(any_used) + FLAGS] ^= 1 << self.random.below(32),
-            22 => {
-                let bit = self.random.below(32);
-                words[root + TYPE] = self.random.pick(&[RTJM ^ (1 << bit), 0, RTJM.swap_bytes()]);
-            }
-            23 => {
-                if let Some(other) = other {
-                    words[node(other) + TYPE] = RTJM;
-                }
-            }
-            24..=26 => {
-                // A handle that is neither default nor retired.
-                let at = node(any_used) + HANDLE + self.random.below(HANDLE_WORDS);
-                words[at] = match self.random.below(4) {
-                    0 => 1,
-                    1 => 0xFFFF_FFFE,
-                    2 => 0xFFFF_0000,
-                    _ => !words[at],
-                };
-            }
-            27 => {
-                // Only one word of the holder's, or all but one of another's.
-                let at = node(drawn.holder) + HANDLE;
-                words[at + self.random.below(HANDLE_WORDS)] = u32::MAX;
-            }
-            28 | 29 => {
-                // Two holders.
-                let second = if any_used == drawn.holder {
-                    drawn.root
-                } else {
-                    any_used
-                };
-                set_handle(words, second, DEFAULT_HANDLE);
-            }
-            30 => retire(words, drawn.holder),
-            31 => {
-                let at = root + NODE_CURRENT + self.random.below(DIGEST_WORDS);
-                words[at] ^= 1 << self.random.below(32);
-            }
-            32 => {
-                // The last word or the first.
-                let at = self.random.pick(&[0, DIGEST_WORDS - 1]);
-                words[register(JOURNEY) + at] ^= 1 << self.random.below(32);
-            }
-            33 => words[root + NODE_CUMULATIVE] ^= 1,
-            34 => words[MARK] = 0,
-            _ => words[ATTESTATION] = 0,
         }
     }
 
