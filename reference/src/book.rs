@@ -1,47 +1,13 @@
 //! The book of demand 3: what a list of calls and cuts after a cold boot comes
 //! to. Its registers and nodes are computed from the history alone.
 
+pub mod wrong;
+
+use crate::boots::{Boot, Boots, Inputs};
+use crate::engine::Paper;
 use crate::layout::*;
-use crate::opening::{Request, Stash, Task, View};
-use crate::tree::well_formed;
-use crate::wrong::Engine;
-
-/// Books that are wrong on purpose: a right engine has to disagree with them.
-#[derive(Clone, Copy, Debug, PartialEq, Eq)]
-pub enum Slip {
-    /// An update boot looks at off before the work in hand goes.
-    OffBeforeGoes,
-    /// Only a cut tears, not another opening.
-    TornByCutsOnly,
-    /// A work that has not stored yet is torn too.
-    TornUnstarted,
-    /// Nothing is ever torn.
-    NeverTorn,
-    /// The last store leaves the book unfinished.
-    StaysUnfinished,
-    /// A refused opening drops the work in hand.
-    RefusalDropsWork,
-    /// A counted disable command does not turn the book off.
-    DisableForgotten,
-    /// A counted stash is left out of the history.
-    StashForgotten,
-    /// A counted update is left out of the history.
-    UpdateForgotten,
-}
-
-impl Slip {
-    pub const ALL: [Slip; 9] = [
-        Slip::OffBeforeGoes,
-        Slip::TornByCutsOnly,
-        Slip::TornUnstarted,
-        Slip::NeverTorn,
-        Slip::StaysUnfinished,
-        Slip::RefusalDropsWork,
-        Slip::DisableForgotten,
-        Slip::StashForgotten,
-        Slip::UpdateForgotten,
-    ];
-}
+use crate::memory::Memory;
+use crate::requests::{Request, Requests, Stash, Task, View};
 
 /// Work and its inputs.
 #[derive(Clone, Debug, PartialEq, Eq)]
@@ -54,20 +20,14 @@ pub enum Event {
     Nothing,
 }
 
-/// A boot's inputs.
-#[derive(Clone, Debug, PartialEq, Eq)]
-pub struct Boot {
-    pub digest: Digest,
-    pub secret: Digest,
-}
-
 impl Event {
+    /// The number of stores.
     fn number(&self) -> u32 {
         match self {
-            Event::Cold(_) => 1_217,
-            Event::Update(_) => 62,
-            Event::DisableCommand | Event::BootDisabling => 15,
-            Event::Stash(_) => 53,
+            Event::Cold(_) => COLD_STORES as u32,
+            Event::Update(_) => UPDATE_STORES as u32,
+            Event::DisableCommand | Event::BootDisabling => DISABLING_STORES as u32,
+            Event::Stash(_) => STASH_STORES as u32,
             Event::Nothing => 0,
         }
     }
@@ -161,7 +121,7 @@ impl State {
         self
     }
 
-    /// Words 16 to 1215.
+    /// All words of the registers and the nodes.
     fn words(&self) -> Vec<u32> {
         let mut words: Vec<u32> = self.registers.iter().flat_map(words_of).collect();
         for node in &self.nodes {
@@ -169,10 +129,15 @@ impl State {
                 words.extend([0; NODE_WORDS]);
                 continue;
             };
-            let parent = node.parent.map_or(0xFF, |index| index as u32);
-            words.extend([parent << 16 | 1, 0]);
-            words.extend([if node.holds { 0 } else { u32::MAX }; 5]);
-            words.push(if node.parent.is_none() { 1 << 31 } else { 0 });
+            let parent = node.parent.map_or(ROOT_PARENT, |index| index as u32);
+            let handle = match node.holds {
+                true => DEFAULT_HANDLE,
+                false => RETIRED_HANDLE,
+            };
+            let tag = 0;
+            words.extend([parent << 16 | USED, tag]);
+            words.extend(handle);
+            words.push(if node.parent.is_none() { INTERNAL } else { 0 });
             words.extend(words_of(&node.current));
             words.extend(words_of(&node.cumulative));
             words.extend([node.kind, node.locality]);
@@ -204,9 +169,20 @@ pub struct Opened {
     pub outcome: Option<u8>,
 }
 
+impl Opened {
+    pub fn refused(number: u32) -> Opened {
+        Opened {
+            number,
+            work: None,
+            outcome: None,
+        }
+    }
+}
+
 /// What an image may have to show at a look.
 pub struct Look;
 
+#[derive(Clone)]
 pub struct Book {
     history: Vec<Event>,
     /// The fold of the history so far.
@@ -216,13 +192,12 @@ pub struct Book {
     unfinished: bool,
     /// Whether a look has found the unit off because of a torn work.
     off_for_good: bool,
-    slip: Option<Slip>,
 }
 
 impl Book {
     /// The book right after all stores of a cold boot. That work is still in
     /// hand, finished.
-    pub fn after_cold_boot(boot: Boot, slip: Option<Slip>) -> Book {
+    pub fn after_cold_boot(boot: Boot) -> Book {
         let event = Event::Cold(boot);
         Book {
             state: State::empty().after(&event),
@@ -235,129 +210,35 @@ impl Book {
             torn: false,
             unfinished: false,
             off_for_good: false,
-            slip,
         }
-    }
-
-    fn slips(&self, slip: Slip) -> bool {
-        self.slip == Some(slip)
-    }
-
-    fn is_off(&self) -> bool {
-        self.torn
-            || self
-                .history
-                .iter()
-                .any(|event| matches!(event, Event::DisableCommand | Event::BootDisabling))
-    }
-
-    /// The work in hand goes, by a cut or another opening.
-    fn goes(&mut self) {
-        if let Some(hand) = self.in_hand.take() {
-            let started = hand.made > 0 || self.slips(Slip::TornUnstarted);
-            if started && hand.left() > 0 && !self.slips(Slip::NeverTorn) {
-                self.torn = true;
-            }
-        }
-    }
-
-    fn goes_by_opening(&mut self) {
-        if self.slips(Slip::TornByCutsOnly) {
-            self.in_hand = None;
-        }
-        self.goes();
-    }
-
-    fn refused(&mut self, number: u32) -> Opened {
-        if self.slips(Slip::RefusalDropsWork) {
-            self.goes();
-        }
-        Opened {
-            number,
-            work: None,
-            outcome: None,
-        }
-    }
-
-    fn counts(&mut self, event: Event) {
-        let forgotten = match event {
-            Event::Stash(_) => self.slips(Slip::StashForgotten),
-            Event::Update(_) => self.slips(Slip::UpdateForgotten),
-            Event::DisableCommand => self.slips(Slip::DisableForgotten),
-            _ => false,
-        };
-        if forgotten {
-            return;
-        }
-        self.state = std::mem::replace(&mut self.state, State::empty()).after(&event);
-        self.history.push(event);
-    }
-
-    fn takes(&mut self, event: Event, of_boot: bool, outcome: Option<u8>) -> Opened {
-        self.goes_by_opening();
-        let hand = Hand {
-            event,
-            made: 0,
-            of_boot,
-        };
-        let opened = Opened {
-            number: 0,
-            work: Some((hand.event.kind_name(), hand.left())),
-            outcome,
-        };
-        self.in_hand = Some(hand);
-        opened
     }
 
     pub fn request(&mut self, request: Request) -> Opened {
-        let mut image = vec![0; REGISTERS_AT];
-        image.extend(self.state.words());
-        let view = View {
-            whole: true,
-            done: !self.unfinished,
-            on: !self.is_off(),
-            well_formed: well_formed(&image),
-            full: self.state.nodes.iter().all(Option::is_some),
-        };
-        match Engine::RIGHT.decide(&view, request) {
-            Err(number) => self.refused(number),
+        match Paper.decide(&self.view(), request) {
+            Err(number) => Opened::refused(number),
             Ok(accepted) => {
                 let event = match accepted.task {
                     Task::Stash(stash) => Event::Stash(stash),
                     Task::Disable => Event::DisableCommand,
-                    Task::Nothing | Task::Overflow(_) => Event::Nothing,
+                    Task::Nothing => Event::Nothing,
                 };
-                self.takes(event, false, None)
+                self.takes(event, None)
             }
         }
     }
 
-    /// An update boot, and whether it is at its end already.
-    pub fn update(
-        &mut self,
-        digest: &[u8],
-        secret: &[u8],
-        verdict: bool,
-    ) -> (Opened, Option<Look>) {
-        let Some((digest, secret)) = Engine::RIGHT.boot_inputs(digest, secret) else {
-            return (self.refused(6), None);
+    /// An update boot, and a look if it is at its end already.
+    pub fn update(&mut self, inputs: Inputs, verdict: bool) -> (Opened, Option<Look>) {
+        let Some(boot) = Paper.boot(inputs) else {
+            return (Opened::refused(number::BOOT_INPUT), None);
         };
-        let off_before = self.is_off();
-        self.goes_by_opening();
-        let off = if self.slips(Slip::OffBeforeGoes) {
-            off_before
-        } else {
-            self.is_off()
-        };
-        if off {
-            (self.takes(Event::BootDisabling, true, Some(3)), None)
+        self.goes();
+        if self.is_off() {
+            (self.takes(Event::BootDisabling, Some(DISABLED)), None)
         } else if verdict {
-            (
-                self.takes(Event::Update(Boot { digest, secret }), true, Some(2)),
-                None,
-            )
+            (self.takes(Event::Update(boot), Some(UPDATED)), None)
         } else {
-            (self.takes(Event::Nothing, true, Some(1)), Some(Look))
+            (self.takes(Event::Nothing, Some(KEPT)), Some(Look))
         }
     }
 
@@ -368,22 +249,17 @@ impl Book {
             return (0, None);
         };
         if hand.left() == 0 {
-            return (9, None);
+            return (number::NO_STORE, None);
         }
         hand.made += 1;
         let last = hand.left() == 0;
-        let event = hand.event.clone();
         let look = (last && hand.of_boot).then_some(Look);
-        self.unfinished = !last || self.slips(Slip::StaysUnfinished);
+        self.unfinished = !last;
         if last {
+            let event = hand.event.clone();
             self.counts(event);
         }
         (0, look)
-    }
-
-    /// Whether a work was ever torn.
-    pub fn is_torn(&self) -> bool {
-        self.torn
     }
 
     pub fn cut(&mut self) {
@@ -395,73 +271,140 @@ impl Book {
         self.in_hand.as_ref().map(Hand::left)
     }
 
+    /// Whether a work was ever torn.
+    pub fn is_torn(&self) -> bool {
+        self.torn
+    }
+
+    fn is_off(&self) -> bool {
+        let disabling =
+            |event: &Event| matches!(event, Event::DisableCommand | Event::BootDisabling);
+        self.torn || self.history.iter().any(disabling)
+    }
+
+    /// What the request rules see of the book.
+    fn view(&self) -> View {
+        let mut image = vec![0; REGISTERS_AT];
+        image.extend(self.state.words());
+        View {
+            whole: true,
+            done: !self.unfinished,
+            on: !self.is_off(),
+            well_formed: Paper.well_formed(&image),
+            full: self.state.nodes.iter().all(Option::is_some),
+        }
+    }
+
+    /// The work in hand goes, by a cut or another opening.
+    fn goes(&mut self) {
+        if let Some(hand) = self.in_hand.take() {
+            self.torn |= hand.made > 0 && hand.left() > 0;
+        }
+    }
+
+    /// An accepted opening's work becomes the one in hand. A boot's has an
+    /// outcome.
+    fn takes(&mut self, event: Event, outcome: Option<u8>) -> Opened {
+        self.goes();
+        let hand = Hand {
+            event,
+            made: 0,
+            of_boot: outcome.is_some(),
+        };
+        let work = Some((hand.event.kind_name(), hand.left()));
+        self.in_hand = Some(hand);
+        Opened {
+            number: 0,
+            work,
+            outcome,
+        }
+    }
+
+    fn counts(&mut self, event: Event) {
+        self.state = std::mem::replace(&mut self.state, State::empty()).after(&event);
+        self.history.push(event);
+    }
+
     /// Demand 3 at a look, against the image.
     pub fn look(&mut self, _look: Look, image: &[u32]) -> Result<(), String> {
-        let on = image[ATTESTATION] == ON;
-        let secret_zero = image[SECRET..SECRET + DIGEST_WORDS].iter().all(|&w| w == 0);
-        if self.torn {
-            if on {
-                return Err("a work was torn and attestation is on".into());
-            }
-            if !secret_zero {
-                return Err("a work was torn and the secret is not zero".into());
-            }
-            self.off_for_good = true;
-        } else {
-            let disabled = self.history.contains(&Event::DisableCommand);
-            if on == disabled {
-                return Err(format!(
-                    "none was torn, a disable command has{} counted, and attestation is {}",
-                    if disabled { "" } else { " not" },
-                    if on { "on" } else { "off" },
-                ));
-            }
-        }
-        let state = State::replay(&self.history);
-        if state != self.state {
+        if State::replay(&self.history) != self.state {
             return Err("the book's state is not its history's".into());
         }
-        if on {
-            // More than demand 3 asks: the secret is the last counted boot's.
-            let secret = self.history.iter().rev().find_map(|event| match event {
-                Event::Cold(boot) | Event::Update(boot) => Some(words_of(&boot.secret)),
-                _ => None,
+        if self.torn {
+            self.off_for_good = true;
+            return claim(is_shut(image), || {
+                "a work was torn, and attestation is on or the secret stands".into()
             });
-            if secret.is_some_and(|words| words != image[SECRET..SECRET + DIGEST_WORDS]) {
-                return Err("the secret is not the last counted boot's".into());
-            }
-            let words = state.words();
-            if let Some(i) = (0..words.len()).find(|&i| words[i] != image[REGISTERS_AT + i]) {
-                return Err(format!(
-                    "word {} is 0x{:08X} and the book has 0x{:08X}",
-                    REGISTERS_AT + i,
-                    image[REGISTERS_AT + i],
-                    words[i]
-                ));
-            }
         }
-        Ok(())
+        let on = image[ATTESTATION] == ON;
+        let disabled = self.history.contains(&Event::DisableCommand);
+        claim(on != disabled, || {
+            format!("none was torn; on: {on}, a disable command has counted: {disabled}")
+        })?;
+        self.is_shown(image)
     }
 
     /// At every point: the mark is the book's, and no call changes what a look
-    /// with a torn work found.
+    /// with a torn work found. More than demand 3 asks: with no work under way
+    /// and none ever torn, the image shows the book.
     pub fn at_every_point(&self, image: &[u32]) -> Result<(), String> {
-        if (image[MARK] == DONE) == self.unfinished {
-            return Err(format!(
-                "the mark is {} and the book is {}",
-                image[MARK],
-                if self.unfinished {
-                    "unfinished"
-                } else {
-                    "finished"
-                },
-            ));
+        let (mark, unfinished) = (image[MARK], self.unfinished);
+        claim((mark == DONE) != unfinished, || {
+            format!("the mark is {mark}; the book is unfinished: {unfinished}")
+        })?;
+        claim(!self.off_for_good || is_shut(image), || {
+            "a later call undid the disabling after a torn work".into()
+        })?;
+        if self.torn || self.unfinished {
+            return Ok(());
         }
-        let on = image[ATTESTATION] == ON;
-        let secret_zero = image[SECRET..SECRET + DIGEST_WORDS].iter().all(|&w| w == 0);
-        if self.off_for_good && (on || !secret_zero) {
-            return Err("a later call undid the disabling after a torn work".into());
-        }
-        Ok(())
+        self.is_shown(image)
     }
+
+    /// Attestation, secret, registers and nodes are the book's.
+    fn is_shown(&self, image: &[u32]) -> Result<(), String> {
+        let on = !self.is_off();
+        claim((image[ATTESTATION] == ON) == on, || {
+            format!(
+                "attestation is {}; the book is on: {on}",
+                image[ATTESTATION]
+            )
+        })?;
+        claim(bytes_of(&image[SECRET..]) == self.secret(), || {
+            "the secret is not the book's".into()
+        })?;
+        let words = self.state.words();
+        let differs = (0..words.len()).find(|&i| words[i] != image[REGISTERS_AT + i]);
+        differs.map_or(Ok(()), |i| {
+            let word = REGISTERS_AT + i;
+            let (found, expected) = (image[word], words[i]);
+            Err(format!(
+                "word {word} is 0x{found:08X} and the book has 0x{expected:08X}"
+            ))
+        })
+    }
+
+    /// The last counted boot's, or zero when off.
+    fn secret(&self) -> Digest {
+        if self.is_off() {
+            return ZERO;
+        }
+        let last_boot = self.history.iter().rev().find_map(|event| match event {
+            Event::Cold(boot) | Event::Update(boot) => Some(boot.secret),
+            _ => None,
+        });
+        last_boot.unwrap_or(ZERO)
+    }
+}
+
+fn claim(holds: bool, otherwise: impl Fn() -> String) -> Result<(), String> {
+    if holds {
+        return Ok(());
+    }
+    Err(otherwise())
+}
+
+/// Attestation off and the secret zero.
+fn is_shut(image: &[u32]) -> bool {
+    image[ATTESTATION] != ON && bytes_of(&image[SECRET..]) == ZERO
 }

@@ -1,12 +1,12 @@
 //! Runs another program on generated inputs and compares byte for byte.
 
-use crate::generate::{program_input, script, sealed, Script};
+use crate::checksum::sealed;
+use crate::generate::{program_input, script, Script};
 use crate::layout::{DISABLE, IDENTITY, IMAGE_WORDS, STASH, VERIFY};
-use crate::mailbox::{mailbox, mailbox_on};
-use crate::player::{play, play_unwatched, Player};
-use crate::script::{encode, Op, INPUT_BYTES, LENT_WORDS};
+use crate::mailbox::mailbox;
+use crate::player::play;
+use crate::script::{encode, BootBytes, Mail, Op, INPUT_BYTES, LENT_WORDS};
 use crate::show;
-use crate::wrong::{Engine, Wrong};
 use std::fs;
 use std::io::{Read, Write};
 use std::path::{Path, PathBuf};
@@ -146,16 +146,20 @@ fn long_inputs() -> Vec<Vec<u8>> {
 
 fn longest_operations() -> Vec<Op> {
     let most = usize::from(u16::MAX);
-    let boot = |digest: usize, secret: usize| Op::Cold {
-        digest: vec![1; digest],
-        secret: vec![2; secret],
+    let boot = |digest: usize, secret: usize| {
+        Op::Cold(BootBytes {
+            digest: vec![1; digest],
+            secret: vec![2; secret],
+        })
     };
-    let request = |table: usize, code: u32, length: usize| Op::Request {
-        code,
-        caller: 0,
-        verdict: 1,
-        table: vec![3; table],
-        bytes: sealed(code, &vec![0xFF; length - 4]),
+    let request = |table: usize, code: u32, length: usize| {
+        Op::Request(Mail {
+            code,
+            caller: 0,
+            verdict: 1,
+            table: vec![3; table],
+            bytes: sealed(code, &vec![0xFF; length - 4]),
+        })
     };
     vec![
         Op::Answer(u16::MAX),
@@ -178,53 +182,88 @@ fn longest_operations() -> Vec<Op> {
     ]
 }
 
+/// Scripts from a seed on, until enough of them and of their operations are made.
+struct Scripts<'a> {
+    options: &'a Options,
+    seed: u64,
+    /// Made, and too long for the batch before.
+    waiting: Option<Script>,
+    scripts: u64,
+    operations: u64,
+}
+
+impl Scripts<'_> {
+    fn are_enough_with(&self, batch: &Batch) -> bool {
+        self.scripts + batch.seeds.len() as u64 >= self.options.count
+            && self.operations + batch.operations >= self.options.operations
+    }
+
+    fn next_batch(&mut self) -> Option<Batch> {
+        let mut batch = Batch::new();
+        while !self.are_enough_with(&batch) {
+            let next = self.waiting.take().unwrap_or_else(|| script(self.seed));
+            if !batch.has_room_for(next.bytes().len()) {
+                self.waiting = Some(next);
+                break;
+            }
+            batch.add(self.seed, &next);
+            self.seed += 1;
+        }
+        self.scripts += batch.seeds.len() as u64;
+        self.operations += batch.operations;
+        (!batch.seeds.is_empty()).then_some(batch)
+    }
+}
+
 /// Compares a driver with the player. False if one script differs.
 pub fn campaign(options: &Options) -> Result<bool, String> {
-    let mut scripts = 0;
-    let mut operations = 0;
-    let mut shown = Instant::now();
     is_program(&options.engine)?;
-    for (count, input) in long_inputs().iter().enumerate() {
-        if differs(&options.engine, input) {
-            report(options, &format!("long-{count}"), input);
-            return Ok(false);
-        }
+    if !long_inputs_agree(options) {
+        return Ok(false);
     }
-    let mut seed = options.from;
-    let mut waiting = None;
-    while scripts < options.count || operations < options.operations {
-        let mut batch = Batch::new();
-        loop {
-            let next = waiting.take().unwrap_or_else(|| script(seed));
-            if !batch.has_room_for(next.bytes().len()) {
-                waiting = Some(next);
-                break;
-            }
-            batch.add(seed, &next);
-            seed += 1;
-            let made = scripts + batch.seeds.len() as u64;
-            if made >= options.count && operations + batch.operations >= options.operations {
-                break;
-            }
-        }
+    let mut all = Scripts {
+        options,
+        seed: options.from,
+        waiting: None,
+        scripts: 0,
+        operations: 0,
+    };
+    let mut shown = Instant::now();
+    let mut found = None;
+    while let (None, Some(batch)) = (&found, all.next_batch()) {
         if run(&options.engine, &batch.input).as_ref() != Ok(&batch.expected) {
-            find_difference(options, &batch);
+            found = Some(batch);
+        } else if shown.elapsed() > PROGRESS {
             println!(
-                "{} scripts, {} operations, differences found",
-                scripts + batch.seeds.len() as u64,
-                operations + batch.operations
+                "{} scripts, {} operations so far",
+                all.scripts, all.operations
             );
-            return Ok(false);
-        }
-        scripts += batch.seeds.len() as u64;
-        operations += batch.operations;
-        if shown.elapsed() > PROGRESS {
-            println!("{scripts} scripts, {operations} operations so far");
             shown = Instant::now();
         }
     }
-    println!("{scripts} scripts, {operations} operations, 0 differences");
-    Ok(true)
+    let differences = match &found {
+        None => "0 differences",
+        Some(batch) => {
+            find_difference(options, batch);
+            "differences found"
+        }
+    };
+    println!(
+        "{} scripts, {} operations, {differences}",
+        all.scripts, all.operations
+    );
+    Ok(found.is_none())
+}
+
+fn long_inputs_agree(options: &Options) -> bool {
+    let inputs = long_inputs();
+    let different = inputs
+        .iter()
+        .position(|input| differs(&options.engine, input));
+    if let Some(count) = different {
+        report(options, &format!("long-{count}"), &inputs[count]);
+    }
+    different.is_none()
 }
 
 fn is_program(path: &Path) -> Result<(), String> {
@@ -337,56 +376,4 @@ pub fn mailbox_campaign(program: &Path, count: u64) -> Result<bool, String> {
     }
     println!("{count} inputs, 0 differences");
     Ok(true)
-}
-
-/// How a wrong engine fares.
-pub struct Caught {
-    pub wrong: Wrong,
-    /// Scripts until the outputs differ, if they do.
-    pub scripts: Option<u64>,
-    /// Scripts until the book beside it disagrees, if it does.
-    pub book: Option<u64>,
-}
-
-/// Plays every wrong engine until it is caught, `count` scripts at most.
-pub fn wrong_engines(count: u64, mut each: impl FnMut(&Caught)) -> bool {
-    let mut scripts: Vec<(Vec<u8>, Vec<u8>)> = Vec::new();
-    let mut all = true;
-    for &wrong in Wrong::ALL {
-        let engine = Engine::wrong(wrong);
-        let mut caught = Caught {
-            wrong,
-            scripts: None,
-            book: None,
-        };
-        for seed in 0..count {
-            if wrong.is_of_program() {
-                let input = program_input(seed);
-                if mailbox_on(engine, &input) != mailbox(&input) {
-                    caught.scripts = Some(seed + 1);
-                    break;
-                }
-                continue;
-            }
-            if scripts.len() as u64 == seed {
-                let input = script(seed).bytes();
-                let output = play(&input);
-                scripts.push((input, output));
-            }
-            let (input, output) = &scripts[seed as usize];
-            if caught.book.is_none() && Player::new(engine).run(input).is_err() {
-                caught.book = Some(seed + 1);
-            }
-            if caught.scripts.is_none() && play_unwatched(engine, input) != *output {
-                caught.scripts = Some(seed + 1);
-            }
-            // The book is looked at for as long, and a little longer.
-            if caught.scripts.is_some() && (caught.book.is_some() || seed >= 200) {
-                break;
-            }
-        }
-        all &= caught.scripts.is_some();
-        each(&caught);
-    }
-    all
 }

@@ -10,6 +10,13 @@ pub fn checksum(code: u32, bytes: &[u8]) -> u32 {
     sum.wrapping_neg()
 }
 
+/// A request or an answer: the checksum, then the bytes that it covers.
+pub fn sealed(code: u32, bytes: &[u8]) -> Vec<u8> {
+    let mut message = checksum(code, bytes).to_le_bytes().to_vec();
+    message.extend_from_slice(bytes);
+    message
+}
+
 #[cfg(test)]
 mod tests {
     use super::checksum;

@@ -1,17 +1,18 @@
 //! Scripts by seed. Each mixes pieces of five sorts and ends with the image.
 
 mod broken;
+mod damage;
 mod images;
 mod lists;
 mod requests;
 mod works;
 
 pub use images::{odd_image_1, odd_image_2};
-pub use requests::{program_input, sealed};
+pub use requests::program_input;
 
 use crate::layout::*;
 use crate::random::Random;
-use crate::script::{encode, Op};
+use crate::script::{encode, BootBytes, Op};
 
 /// A script grows no more once it has this many bytes.
 const ENOUGH: usize = 8_500;
@@ -111,19 +112,30 @@ impl Maker {
         }
     }
 
-    /// A digest and a secret that are refused.
-    fn bad_boot_inputs(&mut self) -> (Vec<u8>, Vec<u8>) {
-        let length = self.random.pick(&[0, 1, 47, 49, 48 + 48, 12]);
-        match self.random.below(4) {
-            0 => (self.random.bytes(length), self.secret()),
-            1 => {
-                let mut secret = self.random.bytes(length);
-                secret.iter_mut().for_each(|byte| *byte |= 1);
-                (self.digest(), secret)
-            }
-            2 => (self.digest(), vec![0; 48]),
-            _ => (self.random.bytes(length), vec![0; length]),
+    fn boot_inputs(&mut self) -> BootBytes {
+        BootBytes {
+            digest: self.digest(),
+            secret: self.secret(),
         }
+    }
+
+    /// A boot's inputs that are refused.
+    fn bad_boot_inputs(&mut self) -> BootBytes {
+        let length = self.random.pick(&[0, 1, 47, 49, 48 + 48, 12]);
+        let mut boot = self.boot_inputs();
+        match self.random.below(4) {
+            0 => boot.digest = self.random.bytes(length),
+            1 => {
+                boot.secret = self.random.bytes(length);
+                boot.secret.iter_mut().for_each(|byte| *byte |= 1);
+            }
+            2 => boot.secret.fill(0),
+            _ => {
+                boot.digest = self.random.bytes(length);
+                boot.secret = vec![0; length];
+            }
+        }
+        boot
     }
 
     fn verdict(&mut self, yes: bool) -> u8 {
@@ -135,84 +147,68 @@ impl Maker {
     }
 
     fn push_cold(&mut self) {
-        let (digest, secret) = (self.digest(), self.secret());
-        self.push(Op::Cold { digest, secret });
+        let boot = self.boot_inputs();
+        self.push(Op::Cold(boot));
+    }
+
+    /// A whole cold boot.
+    fn push_booted(&mut self) {
+        self.push_cold();
+        self.push_stores(COLD_STORES);
+    }
+
+    fn push_stores(&mut self, count: usize) {
+        self.push(Op::Store(count as u32));
     }
 
     fn push_update(&mut self, yes: bool) {
-        let (digest, secret) = (self.digest(), self.secret());
+        let boot = self.boot_inputs();
         let verdict = self.verdict(yes);
-        self.push(Op::Update {
-            digest,
-            secret,
-            verdict,
-        });
+        self.push(Op::Update(boot, verdict));
     }
 
     fn push_bad_boot(&mut self) {
-        let (digest, secret) = self.bad_boot_inputs();
+        let boot = self.bad_boot_inputs();
         let yes = self.random.once_in(2);
         let verdict = self.verdict(yes);
-        if self.random.once_in(3) {
-            self.push(Op::Cold { digest, secret });
-        } else {
-            self.push(Op::Update {
-                digest,
-                secret,
-                verdict,
-            });
-        }
+        let op = match self.random.below(3) {
+            0 => Op::Cold(boot),
+            _ => Op::Update(boot, verdict),
+        };
+        self.push(op);
     }
 
     /// Looks without consequence: stores left, an answer, the image.
     fn peek(&mut self) {
         match self.random.below(6) {
             0 | 1 => self.push(Op::Left),
-            2 | 3 => {
-                let size = self.answer_size();
-                self.push(Op::Answer(size));
-            }
+            2 | 3 => self.push_answer(),
             4 => self.push(Op::Dump),
             _ => {}
         }
     }
 
-    fn answer_size(&mut self) -> u16 {
-        self.random
-            .pick(&[0, 1, 4, 7, 8, 9, 11, 12, 13, 103, 104, 105, 200])
+    /// An answer into a buffer of about the right size.
+    fn push_answer(&mut self) {
+        let most = ANSWER_MAX as u16;
+        let size = self
+            .random
+            .pick(&[0, 1, 4, 7, 8, 9, 11, 12, 13, most - 1, most, most + 1, 200]);
+        self.push(Op::Answer(size));
     }
 
     /// All stores of the work in hand, at once or in pieces.
     fn finish(&mut self) {
         match self.random.below(5) {
             0 => {
-                let first = self.random.between(0, 70) as u32;
-                self.push(Op::Store(first));
+                let first = self.random.between(0, 70);
+                self.push_stores(first);
                 self.push(Op::Left);
-                self.push(Op::Store(2_000));
+                self.push_stores(COLD_STORES + 1);
             }
             1 => self.push(Op::Store(u32::MAX)),
-            _ => self.push(Op::Store(1_217)),
+            _ => self.push_stores(COLD_STORES),
         }
-    }
-
-    fn odd_word(&mut self) -> u32 {
-        let random = self.random.half();
-        self.random.pick(&[
-            0,
-            2,
-            3,
-            0x0100,
-            0x0101,
-            0x0001_0000,
-            0x0001_0001,
-            0x0100_0000,
-            0x0100_0001,
-            0x8000_0001,
-            0xFFFF_FFFF,
-            0xFFFF_FFFE,
-            random,
-        ])
     }
 
     /// A caller's number or a type.

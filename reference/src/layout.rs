@@ -1,5 +1,6 @@
 //! Where everything is in the memory image and how long everything is: the
-//! table of "What the unit holds" and the numbers of "Mailbox".
+//! table of "What the unit holds", the numbers of "Mailbox" and of the store
+//! table. Every figure stands here once; `tests/figures.rs` has the paper's.
 
 use crate::sha384::{digest, DIGEST_BYTES};
 
@@ -8,8 +9,9 @@ pub const DIGEST_WORDS: usize = DIGEST_BYTES / 4;
 
 pub const MARK: usize = 0;
 pub const ATTESTATION: usize = 1;
+pub const SPARE: usize = 2;
 pub const SECRET: usize = 4;
-pub const REGISTERS_AT: usize = 16;
+pub const REGISTERS_AT: usize = SECRET + DIGEST_WORDS;
 pub const REGISTERS: usize = 32;
 pub const NODES_AT: usize = REGISTERS_AT + REGISTERS * DIGEST_WORDS;
 pub const NODES: usize = 24;
@@ -28,7 +30,8 @@ pub const CURRENT: usize = 2;
 pub const JOURNEY: usize = 3;
 pub const STASHED: usize = 31;
 
-/// Offsets within a node.
+/// Offsets within a node. The first word is the parent's index over "used".
+pub const TAG: usize = 1;
 pub const HANDLE: usize = 2;
 pub const HANDLE_WORDS: usize = 5;
 pub const FLAGS: usize = 7;
@@ -45,21 +48,59 @@ pub const RTJM: u32 = 0x4D4A_5452;
 pub const DEFAULT_HANDLE: [u32; HANDLE_WORDS] = [0; HANDLE_WORDS];
 pub const RETIRED_HANDLE: [u32; HANDLE_WORDS] = [u32::MAX; HANDLE_WORDS];
 
+/// The numbers of stores, both marks included.
+pub const STASH_STORES: usize = 2 + DIGEST_WORDS + NODE_WORDS + HANDLE_WORDS;
+pub const DISABLING_STORES: usize = 2 + 1 + DIGEST_WORDS;
+pub const UPDATE_STORES: usize = 2 + 5 * DIGEST_WORDS;
+pub const COLD_STORES: usize = 2 + IMAGE_WORDS - 1;
+
 pub const STASH: u32 = 0x4D45_4153;
 pub const DISABLE: u32 = 0x4453_424C;
 pub const IDENTITY: u32 = 0x4944_4549;
 pub const VERIFY: u32 = 0x5349_4756;
 
-pub const STASH_BYTES: usize = 60;
-pub const DISABLE_BYTES: usize = 4;
-pub const IDENTITY_BYTES: usize = 4;
-pub const VERIFY_BYTES: usize = 196;
+/// A command's row in the table of "Mailbox".
+#[derive(Clone, Copy)]
+pub struct Command {
+    pub code: u32,
+    pub name: &'static str,
+    pub request_bytes: usize,
+    pub answer_bytes: usize,
+}
+
+const fn row(code: u32, name: &'static str, request_bytes: usize, answer_bytes: usize) -> Command {
+    Command {
+        code,
+        name,
+        request_bytes,
+        answer_bytes,
+    }
+}
+
+pub const COMMANDS: [Command; 4] = [
+    row(STASH, "stash", 60, 12),
+    row(DISABLE, "disable", 4, 8),
+    row(IDENTITY, "identity", 4, ANSWER_MAX),
+    row(VERIFY, "verify", 196, 8),
+];
 
 /// The longest answer, an identity key.
 pub const ANSWER_MAX: usize = 104;
 
+/// The command of a code, if there is one.
+pub fn command(code: u32) -> Option<&'static Command> {
+    COMMANDS.iter().find(|command| command.code == code)
+}
+
+/// A request's checksum, and a stash's fields behind it.
+pub const CHECKSUM_BYTES: usize = 4;
+pub const STASH_TYPE: usize = 4;
+pub const STASH_DIGEST: usize = 8;
+pub const STASH_SVN: usize = 56;
+
 pub const TABLE_BYTES: usize = 2_048;
 pub const TABLE_MARKER: u32 = 0x5448_4643;
+pub const TABLE_MAJOR_AT: usize = 4;
 pub const TABLE_MAJOR: u16 = 1;
 pub const KEY_AT: usize = 304;
 pub const KEY_BYTES: usize = 96;
@@ -105,6 +146,11 @@ pub fn register(index: usize) -> usize {
 /// The first word of a node.
 pub fn node(index: usize) -> usize {
     NODES_AT + NODE_WORDS * index
+}
+
+/// A node's words.
+pub fn node_of(image: &[u32], index: usize) -> &[u32] {
+    &image[node(index)..][..NODE_WORDS]
 }
 
 /// Four bytes to a word, the first byte lowest.

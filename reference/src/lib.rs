@@ -2,19 +2,29 @@
 //!
 //! It is written from the papers alone and shares no code with the proved
 //! crates. Tests run both and compare what they hand back.
+//!
+//! The reading of document 01 is `layout`, `memory`, `requests`, `boots`,
+//! `work`, `engine`, `mailbox` and `book`. Around it: `script` and `player` are
+//! the driver, `generate` makes scripts, `campaign` compares, and `wrong` and
+//! `book::wrong` hold what is wrong on purpose.
 
+// The reading.
 pub mod book;
-pub mod campaign;
+pub mod boots;
 pub mod checksum;
-pub mod generate;
+pub mod engine;
 pub mod layout;
 pub mod mailbox;
-pub mod opening;
+pub mod memory;
+pub mod requests;
+pub mod sha384;
+pub mod work;
+
+// What is around it.
+pub mod campaign;
+pub mod generate;
 pub mod player;
 pub mod random;
 pub mod script;
-pub mod sha384;
 pub mod show;
-pub mod tree;
-pub mod work;
 pub mod wrong;

@@ -1,75 +1,71 @@
 //! The small program of 01: one request on a freshly booted image.
 
+use crate::boots::Inputs;
+use crate::engine::Engine;
 use crate::layout::*;
-use crate::opening::Request;
-use crate::wrong::{Engine, Wrong};
+use crate::requests::Request;
+use crate::work::Work;
 
 /// The most bytes of the input that are used.
 pub const INPUT_BYTES: usize = 65_000;
 
-/// The image after a cold boot with this digest and secret.
-pub fn booted(digest: &Digest, secret: &Digest) -> Vec<u32> {
-    let engine = Engine::RIGHT;
+/// The digest and the secret of the program's cold boot.
+pub const BOOTED_WITH: Inputs = Inputs {
+    digest: &[0x11; 48],
+    secret: &[0x22; 48],
+};
+
+/// The image after a cold boot with the program's inputs.
+pub fn booted() -> Vec<u32> {
+    let engine = Engine::PAPER;
     let mut image = vec![0; IMAGE_WORDS];
     let (mut work, _) = engine
-        .open_cold(&image, digest, secret)
+        .open_cold(&image, BOOTED_WITH)
         .expect("a fine cold boot");
-    while engine.left(&work) > 0 {
-        engine.store(&mut work, &mut image);
-    }
+    while engine.store(&mut work, &mut image) == 0 {}
     image
 }
 
 /// What the program writes for an input.
 pub fn mailbox(input: &[u8]) -> Vec<u8> {
-    mailbox_on(Engine::RIGHT, input)
+    mailbox_on(Engine::PAPER, input)
 }
 
 pub fn mailbox_on(engine: Engine, input: &[u8]) -> Vec<u8> {
+    let program = engine.program;
     let input = &input[..input.len().min(INPUT_BYTES)];
-    let (code, bytes) = match input.split_at_checked(4) {
-        Some((code, bytes)) => (little(code), bytes),
-        None => (0, &[][..]),
-    };
-    let mut image = booted(&[0x11; 48], &[0x22; 48]);
-    let mut lent = vec![0; TABLE_BYTES];
-    lent[..6].copy_from_slice(&[0x43, 0x46, 0x48, 0x54, 1, 0]);
-    let request = Request {
-        code,
-        bytes,
-        caller: 0,
-        table: if engine.has(Wrong::ProgramTable) {
-            &lent
-        } else {
-            &[]
-        },
-        verdict: engine.has(Wrong::ProgramVerdictYes),
-    };
-    let mut buffer = [0; ANSWER_MAX];
-    let (result, length) = match engine.open_request(&image, request) {
-        Err(number) => (number, 0),
+    let mut image = booted();
+    match engine.open_request(&image, program.request(input)) {
+        Err(number) => program.output(number, &[]),
         Ok(mut work) => {
-            if !engine.has(Wrong::ProgramBeforeStores) {
-                while engine.store(&mut work, &mut image) == 0 {}
+            program.carry_out(&engine, &mut work, &mut image);
+            let mut buffer = [0; ANSWER_MAX];
+            match engine.answer(&work, &mut buffer) {
+                0 => program.output(0, &buffer[..work.answer_bytes as usize]),
+                number => program.output(number, &[]),
             }
-            let number = engine.answer(&work, &mut buffer);
-            (
-                number,
-                if number == 0 {
-                    work.answer_bytes as usize
-                } else {
-                    0
-                },
-            )
         }
-    };
-    let mut output = result.to_le_bytes().to_vec();
-    if engine.has(Wrong::ProgramBigEndian) {
-        output.reverse();
     }
-    output.extend_from_slice(&buffer[..length]);
-    if engine.has(Wrong::ProgramAnswersRefused) && result != 0 {
-        output.extend([0; 4]);
+}
+
+/// The program's rules, each a method, so that a program can be wrong in just
+/// one.
+pub trait Program {
+    /// Code and request; fewer than 4 bytes count as code 0.
+    fn request<'a>(&self, input: &'a [u8]) -> Request<'a> {
+        match input.split_at_checked(4) {
+            Some((code, bytes)) => Request::plain(little(code), bytes),
+            None => Request::plain(0, &[]),
+        }
     }
-    output
+
+    /// Makes all stores.
+    fn carry_out(&self, engine: &Engine, work: &mut Work, image: &mut [u32]) {
+        while engine.store(work, image) == 0 {}
+    }
+
+    /// The result, then the answer.
+    fn output(&self, number: u32, answer: &[u8]) -> Vec<u8> {
+        [&number.to_le_bytes(), answer].concat()
+    }
 }

@@ -1,8 +1,7 @@
 //! The second program: plays scripts, makes them, and compares with others.
 
-use reference::campaign::{campaign, mailbox_campaign, wrong_engines, Options};
-use reference::wrong::{Engine, Wrong};
-use reference::{generate, mailbox, player, script, show};
+use reference::campaign::{campaign, mailbox_campaign, Options};
+use reference::{generate, mailbox, player, script, show, wrong};
 use std::io::{self, Read, Write};
 use std::path::PathBuf;
 use std::process::ExitCode;
@@ -18,7 +17,9 @@ const USAGE: &str = "usage: reference COMMAND
                            as many more as M operations take
   mailbox-campaign --engine PATH [--count N]
                            compares a small program on N inputs
-  wrong [--count N]        how many scripts catch each wrong engine";
+  wrong [--count N]        how many scripts catch each wrong engine
+  engines                  a table of all that is wrong on purpose
+  help                     this text";
 
 fn main() -> ExitCode {
     let words: Vec<String> = std::env::args().skip(1).collect();
@@ -35,16 +36,12 @@ fn main() -> ExitCode {
 fn command(words: &[String]) -> Result<bool, String> {
     let (name, rest) = words.split_first().ok_or(USAGE)?;
     match (name.as_str(), rest) {
+        ("help" | "--help", []) => write(format!("{USAGE}\n").as_bytes()),
         ("play", []) => write(&player::play(&input(script::INPUT_BYTES)?)),
         ("play", [name]) => {
-            let wrong = Wrong::ALL
-                .iter()
-                .find(|wrong| format!("{wrong:?}") == *name);
-            let engine = Engine::wrong(*wrong.ok_or_else(|| format!("{name} is no wrong engine"))?);
-            write(&player::play_unwatched(
-                engine,
-                &input(script::INPUT_BYTES)?,
-            ))
+            let wrong = wrong::named(name).ok_or_else(|| format!("{name} is no wrong engine"))?;
+            let input = input(script::INPUT_BYTES)?;
+            write(&player::play_unwatched(wrong.engine, &input))
         }
         ("mailbox", []) => write(&mailbox::mailbox(&input(mailbox::INPUT_BYTES)?)),
         ("show", []) => write(show::script(&input(script::INPUT_BYTES)?).as_bytes()),
@@ -52,15 +49,16 @@ fn command(words: &[String]) -> Result<bool, String> {
         ("campaign", rest) => campaign(&Options {
             engine: option(rest, "--engine")?.ok_or(USAGE)?.into(),
             from: count(rest, "--from", 0)?,
-            count: count(rest, "--count", 1_000)?,
+            count: some(rest, "--count", 1_000)?,
             operations: count(rest, "--calls", 0)?,
             keep: option(rest, "--keep")?.unwrap_or("target/campaign").into(),
         }),
         ("mailbox-campaign", rest) => {
             let engine: PathBuf = option(rest, "--engine")?.ok_or(USAGE)?.into();
-            mailbox_campaign(&engine, count(rest, "--count", 200)?)
+            mailbox_campaign(&engine, some(rest, "--count", 200)?)
         }
-        ("wrong", rest) => Ok(wrong(count(rest, "--count", 1_000)?)),
+        ("wrong", rest) => Ok(wrong_engines(some(rest, "--count", 1_000)?)),
+        ("engines", []) => write(wrong::table().as_bytes()),
         _ => Err(USAGE.into()),
     }
 }
@@ -103,20 +101,28 @@ fn count(words: &[String], name: &str, otherwise: u64) -> Result<u64, String> {
     option(words, name)?.map_or(Ok(otherwise), number)
 }
 
-fn wrong(count: u64) -> bool {
+/// As `count`; 0 would show nothing.
+fn some(words: &[String], name: &str, otherwise: u64) -> Result<u64, String> {
+    match count(words, name, otherwise)? {
+        0 => Err(format!("{name} 0 shows nothing")),
+        number => Ok(number),
+    }
+}
+
+fn wrong_engines(count: u64) -> bool {
     println!("scripts  book  wrong engine");
     let told = |scripts: Option<u64>| scripts.map_or("-".into(), |n| n.to_string());
     let mut engines = 0;
     let mut missed = 0;
-    wrong_engines(count, |caught| {
+    wrong::caught(count, |caught| {
         engines += 1;
         missed += u64::from(caught.scripts.is_none());
         println!(
-            "{:>7}  {:>4}  {:?}: {}",
+            "{:>7}  {:>4}  {}: {}",
             told(caught.scripts),
             told(caught.book),
-            caught.wrong,
-            caught.wrong.says()
+            caught.wrong.name,
+            caught.wrong.says
         );
     });
     println!("{engines} wrong engines, {missed} not caught within {count} scripts");

@@ -1,12 +1,14 @@
 //! Plays a script on the engine, with the book beside it wherever a list
 //! follows a completed cold boot.
 
-use crate::book::{Book, Boot, Look, Opened, Slip};
+use crate::book::wrong::{Fair, Keeper};
+use crate::book::{Book, Look, Opened};
+use crate::boots::{Boot, Boots, Inputs};
+use crate::engine::{Engine, Paper};
 use crate::layout::*;
-use crate::opening::Request;
+use crate::requests::Request;
 use crate::script::{Op, Reader};
 use crate::work::{Kind, Work};
-use crate::wrong::{Engine, Wrong};
 use std::collections::BTreeSet;
 
 /// The number for a call without a work in hand.
@@ -14,6 +16,25 @@ pub const NONE_IN_HAND: u32 = u32::MAX;
 
 /// Every byte of an answer's buffer before the call.
 pub const FILLING: u8 = 0xA5;
+
+/// What the driver does around the entries, each rule a method, so that a
+/// driver can be wrong in just one.
+pub trait Host {
+    /// A verdict's byte: 1 is yes, anything else no.
+    fn is_yes(&self, verdict: u8) -> bool {
+        verdict == 1
+    }
+
+    /// What is in hand after a refused opening.
+    fn after_refusal(&self, in_hand: Option<Work>) -> Option<Work> {
+        in_hand
+    }
+
+    /// What is in hand after an answer.
+    fn after_answer(&self, work: Work) -> Work {
+        work
+    }
+}
 
 /// What the calls of a run have come to, for the coverage test.
 #[derive(Default)]
@@ -46,13 +67,13 @@ pub struct Player {
     watch: Watch,
     output: Vec<u8>,
     pub seen: Seen,
-    /// What is wrong with the book, if it is so on purpose.
-    pub slip: Option<Slip>,
+    /// Who keeps the book.
+    pub keeper: &'static dyn Keeper,
 }
 
 /// Plays an input to its end. A disagreement with the book is a panic.
 pub fn play(input: &[u8]) -> Vec<u8> {
-    let mut player = Player::new(Engine::RIGHT);
+    let mut player = Player::new(Engine::PAPER);
     match player.run(input) {
         Ok(()) => player.output,
         Err(why) => panic!("the engine and the book disagree: {why}"),
@@ -78,14 +99,14 @@ impl Player {
             watch: Watch::Nothing,
             output: Vec::new(),
             seen: Seen::default(),
-            slip: None,
+            keeper: &Fair,
         }
     }
 
     /// Plays an input to its end, or to the first disagreement with the book.
     pub fn run(&mut self, input: &[u8]) -> Result<(), String> {
         for (count, op) in Reader::new(input).enumerate() {
-            let letter = op.bytes()[0] as char;
+            let letter = op.letter() as char;
             self.operate(op)
                 .map_err(|why| format!("operation {count}, {letter}: {why}"))?;
         }
@@ -113,24 +134,14 @@ impl Player {
                 self.work = None;
                 self.watch = Watch::Nothing;
             }
-            Op::Cold { digest, secret } => self.cold(&digest, &secret),
-            Op::Update {
-                digest,
-                secret,
-                verdict,
-            } => self.update(&digest, &secret, self.yes(verdict))?,
-            Op::Request {
-                code,
-                caller,
-                verdict,
-                table,
-                bytes,
-            } => self.request(Request {
-                code,
-                bytes: &bytes,
-                caller,
-                table: &table,
-                verdict: self.yes(verdict),
+            Op::Cold(boot) => self.cold(boot.inputs()),
+            Op::Update(boot, verdict) => self.update(boot.inputs(), verdict)?,
+            Op::Request(mail) => self.request(Request {
+                code: mail.code,
+                bytes: &mail.bytes,
+                caller: mail.caller,
+                table: &mail.table,
+                verdict: self.engine.host.is_yes(mail.verdict),
             })?,
             Op::Store(count) => self.stores(count)?,
             Op::Answer(size) => self.answer(size)?,
@@ -140,7 +151,7 @@ impl Player {
                     self.seen.cuts.insert((work.kind.name(), work.position));
                 }
                 match &mut self.watch {
-                    Watch::List(book) => book.cut(),
+                    Watch::List(book) => self.keeper.cut(book),
                     _ => self.watch = Watch::Nothing,
                 }
             }
@@ -158,10 +169,6 @@ impl Player {
         }
     }
 
-    fn yes(&self, verdict: u8) -> bool {
-        verdict == 1 || (verdict != 0 && self.engine.has(Wrong::VerdictNonZero))
-    }
-
     fn put(&mut self, number: u32) {
         self.output.extend_from_slice(&number.to_le_bytes());
     }
@@ -172,14 +179,8 @@ impl Player {
             Err(number) => {
                 self.put(number);
                 self.seen.numbers.insert((letter, number));
-                if self.engine.has(Wrong::RefusalDropsWork) {
-                    self.work = None;
-                }
-                Opened {
-                    number,
-                    work: None,
-                    outcome: None,
-                }
+                self.work = self.engine.host.after_refusal(self.work.take());
+                Opened::refused(number)
             }
             Ok((work, outcome)) => {
                 let left = self.engine.left(&work);
@@ -200,28 +201,24 @@ impl Player {
         }
     }
 
-    fn cold(&mut self, digest: &[u8], secret: &[u8]) {
-        let result = self.engine.open_cold(&self.image, digest, secret);
+    fn cold(&mut self, inputs: Inputs) {
+        let result = self.engine.open_cold(&self.image, inputs);
         let opened = self.opened('C', result.map(|(work, outcome)| (work, Some(outcome))));
         // A refused cold boot changes nothing, so a list goes on over it.
         if opened.number == 0 {
-            let inputs = Engine::RIGHT.boot_inputs(digest, secret);
-            self.watch = inputs.map_or(Watch::Nothing, |(digest, secret)| {
-                Watch::Booting(Boot { digest, secret })
-            });
+            self.watch = Paper.boot(inputs).map_or(Watch::Nothing, Watch::Booting);
         }
     }
 
-    fn update(&mut self, digest: &[u8], secret: &[u8], verdict: bool) -> Result<(), String> {
-        let result = self
-            .engine
-            .open_update(&self.image, digest, secret, verdict);
+    fn update(&mut self, inputs: Inputs, verdict: u8) -> Result<(), String> {
+        let yes = self.engine.host.is_yes(verdict);
+        let result = self.engine.open_update(&self.image, inputs, yes);
         let opened = self.opened('U', result.map(|(work, outcome)| (work, Some(outcome))));
         let Watch::List(book) = &mut self.watch else {
             self.watch_ends_if(opened.number == 0);
             return Ok(());
         };
-        let (expected, look) = book.update(digest, secret, verdict);
+        let (expected, look) = self.keeper.update(book, inputs, yes);
         agree("update boot", &opened, &expected)?;
         self.look(look)
     }
@@ -238,7 +235,7 @@ impl Player {
             self.watch_ends_if(opened.number == 0);
             return Ok(());
         };
-        agree("request", &opened, &book.request(request))
+        agree("request", &opened, &self.keeper.request(book, request))
     }
 
     /// A cold boot that is not at its end goes when another opening is accepted.
@@ -267,7 +264,7 @@ impl Player {
                 made += 1;
             }
             if let Watch::List(book) = &mut self.watch {
-                let (expected, look) = book.store();
+                let (expected, look) = self.keeper.store(book);
                 if refusal != expected {
                     return Err(format!(
                         "a store gave {refusal} and the book says {expected}"
@@ -287,7 +284,7 @@ impl Player {
     fn start_of_list(&mut self) {
         if let (Watch::Booting(boot), Some(work)) = (&self.watch, &self.work) {
             if self.engine.left(work) == 0 {
-                let book = Book::after_cold_boot(boot.clone(), self.slip);
+                let book = Book::after_cold_boot(boot.clone());
                 self.watch = Watch::List(Box::new(book));
             }
         }
@@ -302,10 +299,11 @@ impl Player {
         self.put(number);
         self.output.extend_from_slice(&buffer);
         self.seen.numbers.insert(('A', number));
-        if self.engine.has(Wrong::AnswerOnce) && number == 0 {
-            if let Some(work) = &mut self.work {
-                work.answer_bytes = 0;
-            }
+        if number == 0 {
+            self.work = self
+                .work
+                .take()
+                .map(|work| self.engine.host.after_answer(work));
         }
         if let Watch::List(book) = &self.watch {
             let expected = book.left().map(|left| left > 0);

@@ -1,30 +1,62 @@
 //! Scripts: the driver's operations as bytes and as values.
 
+use crate::boots::Inputs;
+use crate::layout::little;
+
 /// The most bytes of an input that are used.
 pub const INPUT_BYTES: usize = 1_048_576;
 
 /// The most words of an image that can be lent.
 pub const LENT_WORDS: usize = 4_096;
 
+/// A boot's inputs, of any lengths.
+#[derive(Clone, Debug, PartialEq, Eq)]
+pub struct BootBytes {
+    pub digest: Vec<u8>,
+    pub secret: Vec<u8>,
+}
+
+impl BootBytes {
+    pub fn inputs(&self) -> Inputs<'_> {
+        Inputs {
+            digest: &self.digest,
+            secret: &self.secret,
+        }
+    }
+
+    fn encode(&self, out: &mut Vec<u8>) {
+        put_string(out, &self.digest);
+        put_string(out, &self.secret);
+    }
+}
+
+/// A request and what is lent with it, of any lengths.
+#[derive(Clone, Debug, PartialEq, Eq)]
+pub struct Mail {
+    pub code: u32,
+    pub caller: u32,
+    pub verdict: u8,
+    pub table: Vec<u8>,
+    pub bytes: Vec<u8>,
+}
+
+impl Mail {
+    fn encode(&self, out: &mut Vec<u8>) {
+        out.extend_from_slice(&self.code.to_le_bytes());
+        out.extend_from_slice(&self.caller.to_le_bytes());
+        out.push(self.verdict);
+        put_string(out, &self.table);
+        put_string(out, &self.bytes);
+    }
+}
+
 #[derive(Clone, Debug, PartialEq, Eq)]
 pub enum Op {
     Image(Vec<u32>),
-    Cold {
-        digest: Vec<u8>,
-        secret: Vec<u8>,
-    },
-    Update {
-        digest: Vec<u8>,
-        secret: Vec<u8>,
-        verdict: u8,
-    },
-    Request {
-        code: u32,
-        caller: u32,
-        verdict: u8,
-        table: Vec<u8>,
-        bytes: Vec<u8>,
-    },
+    Cold(BootBytes),
+    /// With ROM's verdict.
+    Update(BootBytes, u8),
+    Request(Mail),
     Store(u32),
     Answer(u16),
     Left,
@@ -47,60 +79,41 @@ fn put_string(out: &mut Vec<u8>, bytes: &[u8]) {
 }
 
 impl Op {
+    pub fn letter(&self) -> u8 {
+        match self {
+            Op::Image(_) => b'I',
+            Op::Cold(_) => b'C',
+            Op::Update(..) => b'U',
+            Op::Request(_) => b'R',
+            Op::Store(_) => b'S',
+            Op::Answer(_) => b'A',
+            Op::Left => b'L',
+            Op::Cut => b'X',
+            Op::Set { .. } => b'W',
+            Op::Dump => b'D',
+        }
+    }
+
     pub fn encode(&self, out: &mut Vec<u8>) {
+        out.push(self.letter());
         match self {
             Op::Image(words) => {
-                out.push(b'I');
                 out.extend_from_slice(&(words.len() as u32).to_le_bytes());
-                for word in words {
-                    out.extend_from_slice(&word.to_le_bytes());
-                }
+                out.extend(words.iter().flat_map(|word| word.to_le_bytes()));
             }
-            Op::Cold { digest, secret } => {
-                out.push(b'C');
-                put_string(out, digest);
-                put_string(out, secret);
-            }
-            Op::Update {
-                digest,
-                secret,
-                verdict,
-            } => {
-                out.push(b'U');
-                put_string(out, digest);
-                put_string(out, secret);
+            Op::Cold(boot) => boot.encode(out),
+            Op::Update(boot, verdict) => {
+                boot.encode(out);
                 out.push(*verdict);
             }
-            Op::Request {
-                code,
-                caller,
-                verdict,
-                table,
-                bytes,
-            } => {
-                out.push(b'R');
-                out.extend_from_slice(&code.to_le_bytes());
-                out.extend_from_slice(&caller.to_le_bytes());
-                out.push(*verdict);
-                put_string(out, table);
-                put_string(out, bytes);
-            }
-            Op::Store(count) => {
-                out.push(b'S');
-                out.extend_from_slice(&count.to_le_bytes());
-            }
-            Op::Answer(size) => {
-                out.push(b'A');
-                out.extend_from_slice(&size.to_le_bytes());
-            }
-            Op::Left => out.push(b'L'),
-            Op::Cut => out.push(b'X'),
+            Op::Request(mail) => mail.encode(out),
+            Op::Store(count) => out.extend_from_slice(&count.to_le_bytes()),
+            Op::Answer(size) => out.extend_from_slice(&size.to_le_bytes()),
             Op::Set { field, value } => {
-                out.push(b'W');
                 out.push(*field);
                 out.extend_from_slice(&value.to_le_bytes());
             }
-            Op::Dump => out.push(b'D'),
+            Op::Left | Op::Cut | Op::Dump => {}
         }
     }
 
@@ -145,24 +158,11 @@ impl<'a> Reader<'a> {
                     return None;
                 }
                 let bytes = fields.take(4 * count)?;
-                Op::Image(bytes.chunks_exact(4).map(crate::layout::little).collect())
+                Op::Image(bytes.chunks_exact(4).map(little).collect())
             }
-            b'C' => Op::Cold {
-                digest: fields.string()?,
-                secret: fields.string()?,
-            },
-            b'U' => Op::Update {
-                digest: fields.string()?,
-                secret: fields.string()?,
-                verdict: fields.byte()?,
-            },
-            b'R' => Op::Request {
-                code: fields.number()?,
-                caller: fields.number()?,
-                verdict: fields.byte()?,
-                table: fields.string()?,
-                bytes: fields.string()?,
-            },
+            b'C' => Op::Cold(fields.boot()?),
+            b'U' => Op::Update(fields.boot()?, fields.byte()?),
+            b'R' => Op::Request(fields.mail()?),
             b'S' => Op::Store(fields.number()?),
             b'A' => Op::Answer(fields.short()?),
             b'L' => Op::Left,
@@ -209,12 +209,29 @@ impl<'a> Fields<'a> {
     }
 
     fn number(&mut self) -> Option<u32> {
-        self.take(4).map(crate::layout::little)
+        self.take(4).map(little)
     }
 
     fn string(&mut self) -> Option<Vec<u8>> {
         let length = self.short()?;
         self.take(usize::from(length)).map(<[u8]>::to_vec)
+    }
+
+    fn boot(&mut self) -> Option<BootBytes> {
+        Some(BootBytes {
+            digest: self.string()?,
+            secret: self.string()?,
+        })
+    }
+
+    fn mail(&mut self) -> Option<Mail> {
+        Some(Mail {
+            code: self.number()?,
+            caller: self.number()?,
+            verdict: self.byte()?,
+            table: self.string()?,
+            bytes: self.string()?,
+        })
     }
 }
 
@@ -222,26 +239,26 @@ impl<'a> Fields<'a> {
 mod tests {
     use super::*;
 
+    fn boot(digest: usize, secret: usize) -> BootBytes {
+        BootBytes {
+            digest: vec![1; digest],
+            secret: vec![2; secret],
+        }
+    }
+
     #[test]
     fn every_operation_reads_as_written() {
         let ops = vec![
             Op::Image(vec![1, 0x0403_0201]),
-            Op::Cold {
-                digest: vec![1; 48],
-                secret: vec![],
-            },
-            Op::Update {
-                digest: vec![],
-                secret: vec![2; 49],
-                verdict: 7,
-            },
-            Op::Request {
+            Op::Cold(boot(48, 0)),
+            Op::Update(boot(0, 49), 7),
+            Op::Request(Mail {
                 code: 0x0102_0304,
                 caller: 5,
                 verdict: 1,
                 table: vec![3; 300],
                 bytes: vec![4; 60],
-            },
+            }),
             Op::Store(1_217),
             Op::Answer(300),
             Op::Left,
@@ -256,7 +273,7 @@ mod tests {
         let mut reader = Reader::new(&bytes);
         assert_eq!(reader.by_ref().collect::<Vec<_>>(), ops);
         assert!(reader.rest().is_empty());
-        let letters: Vec<u8> = ops.iter().map(|op| op.bytes()[0]).collect();
+        let letters: Vec<u8> = ops.iter().map(Op::letter).collect();
         assert_eq!(letters, LETTERS);
     }
 
@@ -264,11 +281,7 @@ mod tests {
     fn an_operation_cut_short_is_none() {
         for op in [
             Op::Image(vec![1; 3]),
-            Op::Update {
-                digest: vec![1; 4],
-                secret: vec![2; 4],
-                verdict: 1,
-            },
+            Op::Update(boot(4, 4), 1),
             Op::Set { field: 0, value: 3 },
         ] {
             let bytes = op.bytes();

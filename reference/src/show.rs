@@ -2,7 +2,7 @@
 
 use crate::checksum::checksum;
 use crate::layout::*;
-use crate::script::{Op, Reader};
+use crate::script::{BootBytes, Mail, Op, Reader};
 
 fn hex(bytes: &[u8]) -> String {
     bytes.iter().map(|byte| format!("{byte:02x}")).collect()
@@ -19,13 +19,10 @@ fn told(bytes: &[u8]) -> String {
     }
 }
 
-fn command(code: u32) -> String {
-    match code {
-        STASH => "stash".into(),
-        DISABLE => "disable".into(),
-        IDENTITY => "identity".into(),
-        VERIFY => "verify".into(),
-        _ => format!("code 0x{code:08X}"),
+fn command_name(code: u32) -> String {
+    match command(code) {
+        Some(command) => command.name.into(),
+        None => format!("code 0x{code:08X}"),
     }
 }
 
@@ -64,14 +61,14 @@ fn image(words: &[u32]) -> String {
     if words.len() == IMAGE_WORDS {
         text += &format!(", mark {:#x}, attestation {:#x}", words[0], words[1]);
         for index in 0..NODES {
-            let node = &words[node(index)..node(index) + NODE_WORDS];
+            let node = node_of(words, index);
             if node.iter().all(|&word| word == 0) {
                 continue;
             }
             text += &format!(
                 "; node {index}: 0x{:08X} {} flags {:#x} type 0x{:08X}",
                 node[0],
-                handle_name(&node[HANDLE..HANDLE + HANDLE_WORDS]),
+                handle_name(&node[HANDLE..][..HANDLE_WORDS]),
                 node[FLAGS],
                 node[TYPE]
             );
@@ -80,46 +77,43 @@ fn image(words: &[u32]) -> String {
     text
 }
 
+fn boot(boot: &BootBytes) -> String {
+    format!(
+        "digest {}, secret {}",
+        told(&boot.digest),
+        told(&boot.secret)
+    )
+}
+
+fn mail(mail: &Mail) -> String {
+    let bytes = &mail.bytes;
+    let sum = match bytes.split_at_checked(CHECKSUM_BYTES) {
+        Some((field, body)) if little(field) == checksum(mail.code, body) => "fine",
+        Some(_) => "wrong",
+        None => "missing",
+    };
+    let table = if mail.table.len() <= 16 {
+        told(&mail.table)
+    } else {
+        format!("{} bytes {}..", mail.table.len(), hex(&mail.table[..8]))
+    };
+    format!(
+        "{}, caller {:#x}, verdict {}, table {table}, {} bytes, checksum {sum}: {}",
+        command_name(mail.code),
+        mail.caller,
+        mail.verdict,
+        bytes.len(),
+        told(bytes)
+    )
+}
+
 /// An operation as one line.
 pub fn operation(op: &Op) -> String {
     match op {
         Op::Image(words) => format!("I {}", image(words)),
-        Op::Cold { digest, secret } => {
-            format!("C digest {}, secret {}", told(digest), told(secret))
-        }
-        Op::Update {
-            digest,
-            secret,
-            verdict,
-        } => format!(
-            "U digest {}, secret {}, verdict {verdict}",
-            told(digest),
-            told(secret)
-        ),
-        Op::Request {
-            code,
-            caller,
-            verdict,
-            table,
-            bytes,
-        } => {
-            let sum = match bytes.split_at_checked(4) {
-                Some((field, body)) if little(field) == checksum(*code, body) => "fine",
-                Some(_) => "wrong",
-                None => "missing",
-            };
-            let table = if table.len() <= 16 {
-                told(table)
-            } else {
-                format!("{} bytes {}..", table.len(), hex(&table[..8]))
-            };
-            format!(
-                "R {}, caller {caller:#x}, verdict {verdict}, table {table}, {} bytes, checksum {sum}: {}",
-                command(*code),
-                bytes.len(),
-                told(bytes)
-            )
-        }
+        Op::Cold(inputs) => format!("C {}", boot(inputs)),
+        Op::Update(inputs, verdict) => format!("U {}, verdict {verdict}", boot(inputs)),
+        Op::Request(request) => format!("R {}", mail(request)),
         Op::Store(count) => format!("S {count}"),
         Op::Answer(size) => format!("A {size}"),
         Op::Left => "L".into(),
@@ -173,16 +167,16 @@ impl Output<'_> {
     pub fn of(&mut self, op: &Op) -> Option<Written> {
         Some(Written::Text(match op {
             Op::Image(_) | Op::Cut | Op::Set { .. } => String::new(),
-            Op::Cold { .. } | Op::Update { .. } => match self.number()? {
+            Op::Cold(_) | Op::Update(..) => match self.number()? {
                 0 => {
                     let outcome = self.take(1)?[0];
                     format!("accepted, outcome {outcome}, {} left", self.number()?)
                 }
-                number => format!("refused with {}", refusal(number)),
+                number => refused(number),
             },
-            Op::Request { .. } => match self.number()? {
+            Op::Request(_) => match self.number()? {
                 0 => format!("accepted, {} left", self.number()?),
-                number => format!("refused with {}", refusal(number)),
+                number => refused(number),
             },
             Op::Store(_) => {
                 let made = self.number()?;
@@ -201,6 +195,10 @@ impl Output<'_> {
             }
         }))
     }
+}
+
+fn refused(number: u32) -> String {
+    format!("refused with {}", refusal(number))
 }
 
 fn refusal(number: u32) -> String {

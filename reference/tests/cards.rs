@@ -1,35 +1,36 @@
 //! 01's bench cards, the small program and the two odd images.
 
-use reference::checksum::checksum;
-use reference::generate::{odd_image_1, odd_image_2, sealed};
+use reference::boots::Inputs;
+use reference::checksum::{checksum, sealed};
+use reference::engine::{Engine, Paper};
+use reference::generate::{odd_image_1, odd_image_2};
 use reference::layout::*;
-use reference::mailbox::{booted, mailbox};
-use reference::opening::Request;
+use reference::mailbox::{booted, mailbox, BOOTED_WITH};
+use reference::memory::Memory;
 use reference::player::Player;
-use reference::script::{encode, Op};
+use reference::requests::Request;
+use reference::script::{encode, BootBytes, Mail, Op};
 use reference::sha384::digest;
-use reference::tree::well_formed;
 use reference::work::{Kind, Work};
-use reference::wrong::Engine;
 
-const ENGINE: Engine = Engine::RIGHT;
+const ENGINE: Engine = Engine::PAPER;
 
-fn booted_image() -> Vec<u32> {
-    booted(&[0x11; 48], &[0x22; 48])
-}
+const NO_INPUTS: Inputs = Inputs {
+    digest: &[],
+    secret: &[],
+};
 
-fn request(code: u32, bytes: &[u8]) -> Request<'_> {
-    Request {
-        code,
-        bytes,
-        caller: 0,
-        table: &[],
-        verdict: false,
-    }
+const UPDATED_WITH: Inputs = Inputs {
+    digest: &[0x44; 48],
+    secret: &[0x55; 48],
+};
+
+fn well_formed(image: &[u32]) -> bool {
+    Paper.well_formed(image)
 }
 
 fn open(image: &[u32], code: u32, body: &[u8]) -> Result<Work, u32> {
-    ENGINE.open_request(image, request(code, &sealed(code, body)))
+    ENGINE.open_request(image, Request::plain(code, &sealed(code, body)))
 }
 
 fn stash(image: &[u32], filling: u8) -> Result<Work, u32> {
@@ -51,7 +52,7 @@ fn run(mut work: Work, image: &mut [u32]) -> Work {
 
 fn update(image: &[u32], verdict: bool) -> (Work, u8) {
     ENGINE
-        .open_update(image, &[0x44; 48], &[0x55; 48], verdict)
+        .open_update(image, UPDATED_WITH, verdict)
         .expect("a fine update boot")
 }
 
@@ -62,7 +63,7 @@ fn dpe(work: &Work) -> u32 {
 
 /// An image with this many nodes in use.
 fn filled(nodes: usize) -> Vec<u32> {
-    let mut image = booted_image();
+    let mut image = booted();
     for _ in 1..nodes {
         let work = stash(&image, 7).expect("a free node");
         run(work, &mut image);
@@ -81,7 +82,7 @@ fn cards_1_to_5_checksums() {
 
 #[test]
 fn card_4_in_the_answer() {
-    let mut image = booted_image();
+    let mut image = booted();
     image[ATTESTATION] = 0;
     let work = stash(&image, 0).unwrap();
     assert_eq!(work.kind, Kind::Nothing);
@@ -91,18 +92,19 @@ fn card_4_in_the_answer() {
 
 #[test]
 fn card_6_images_of_other_lengths() {
-    for length in [0, 1, 1_215, 1_217] {
-        let mut image = booted_image();
+    for length in [0, 1, IMAGE_WORDS - 1, IMAGE_WORDS + 1] {
+        let mut image = booted();
         let mut work = open(&image, DISABLE, &[]).unwrap();
         image.resize(length, 1);
         let before = image.clone();
         assert_eq!(stash(&image, 0).unwrap_err(), 1);
         assert_eq!(open(&image, 0, &[]).unwrap_err(), 1);
-        assert_eq!(ENGINE.open_cold(&image, &[], &[]).unwrap_err(), 1);
-        assert_eq!(ENGINE.open_update(&image, &[], &[], true).unwrap_err(), 1);
+        assert_eq!(ENGINE.open_cold(&image, NO_INPUTS).unwrap_err(), 1);
+        assert_eq!(ENGINE.open_update(&image, NO_INPUTS, true).unwrap_err(), 1);
         assert_eq!(ENGINE.store(&mut work, &mut image), 1);
         // 1 comes before 9, whatever the work is.
-        for position in [15, 16, u64::MAX] {
+        let number = DISABLING_STORES as u64;
+        for position in [number, number + 1, u64::MAX] {
             work.position = position;
             assert_eq!(ENGINE.store(&mut work, &mut image), 1);
             assert_eq!(work.position, position);
@@ -112,18 +114,20 @@ fn card_6_images_of_other_lengths() {
 }
 
 #[test]
-fn card_7_and_the_booted_image() {
-    let image = booted_image();
-    assert_eq!(image[400], 0x00FF_0001);
-    assert_eq!(image[40], 0x0A4E_30C7);
-    assert_eq!(image[0..4], [1, 1, 0, 0]);
-    assert_eq!(image[4..16], [0x2222_2222; 12]);
-    assert_eq!(image[40..52], image[52..64]);
-    assert_eq!(image[408..420], image[52..64]);
-    assert_eq!(image[407], 0x8000_0000);
-    assert_eq!(image[432], RTJM);
-    assert!(image[434..].iter().all(|&word| word == 0));
-    let hex: String = bytes_of(&image[40..])
+fn card_7_and_the_booted() {
+    let image = booted();
+    let root = node_of(&image, 0);
+    let journey = &image[register(JOURNEY)..][..DIGEST_WORDS];
+    assert_eq!(root[0], 0x00FF_0001);
+    assert_eq!(image[register(CURRENT)], 0x0A4E_30C7);
+    assert_eq!(image[..SECRET], [1, 1, 0, 0]);
+    assert_eq!(image[SECRET..REGISTERS_AT], [0x2222_2222; 12]);
+    assert_eq!(image[register(CURRENT)..][..DIGEST_WORDS], *journey);
+    assert_eq!(root[NODE_CURRENT..][..DIGEST_WORDS], *journey);
+    assert_eq!(root[FLAGS], 0x8000_0000);
+    assert_eq!(root[TYPE], RTJM);
+    assert!(image[node(1)..].iter().all(|&word| word == 0));
+    let hex: String = bytes_of(&image[register(CURRENT)..])
         .iter()
         .map(|byte| format!("{byte:02x}"))
         .collect();
@@ -145,9 +149,12 @@ fn card_8_a_node_that_is_its_own_parent() {
 
 #[test]
 fn card_9_the_last_free_node() {
-    let mut image = filled(23);
+    let mut image = filled(NODES - 1);
     let work = stash(&image, 0).unwrap();
-    assert_eq!((dpe(&work), ENGINE.left(&work)), (DPE_DONE, 53));
+    assert_eq!(
+        (dpe(&work), ENGINE.left(&work)),
+        (DPE_DONE, STASH_STORES as u32)
+    );
     run(work, &mut image);
     let work = stash(&image, 0).unwrap();
     assert_eq!((dpe(&work), ENGINE.left(&work)), (DPE_FULL, 0));
@@ -207,8 +214,9 @@ const KNOWN: [&str; 3] = ["43577071", "3e0cbf3a", "fb84751f"];
 
 #[test]
 fn card_12_a_stash_that_is_cut() {
-    for (made, on) in [(0, true), (1, false), (52, false), (53, true)] {
-        let mut image = booted_image();
+    let all = STASH_STORES;
+    for (made, on) in [(0, true), (1, false), (all - 1, false), (all, true)] {
+        let mut image = booted();
         let mut work = stash(&image, 9).unwrap();
         store(&mut work, &mut image, made);
         drop(work);
@@ -217,21 +225,8 @@ fn card_12_a_stash_that_is_cut() {
         run(work, &mut image);
         assert_eq!(image[ATTESTATION] == ON, on);
         assert_eq!(image[SECRET] == 0, !on);
-        assert_eq!(image[node(1)] == 1, made > 13);
+        assert_eq!(image[node(1)] == 1, made > 1 + DIGEST_WORDS);
     }
-}
-
-#[test]
-fn the_store_table_has_its_numbers() {
-    let image = booted_image();
-    let number = |work: &Work| (ENGINE.number(work), ENGINE.left(work));
-    assert_eq!(number(&stash(&image, 0).unwrap()), (53, 53));
-    assert_eq!(number(&open(&image, DISABLE, &[]).unwrap()), (15, 15));
-    assert_eq!(number(&update(&image, true).0), (62, 62));
-    let (cold, outcome) = ENGINE.open_cold(&image, &[1; 48], &[1; 48]).unwrap();
-    assert_eq!((number(&cold), outcome), ((1_217, 1_217), COLD));
-    let (kept, outcome) = update(&image, false);
-    assert_eq!((number(&kept), outcome), ((0, 0), KEPT));
 }
 
 /// The word that a store changes: every word is odd before.
@@ -256,22 +251,8 @@ fn odd_image_1_is_well_formed_and_used_as_it_stands() {
     assert!(well_formed(&image));
     let work = stash(&image, 3).unwrap();
     assert_eq!(work.kind, Kind::Stash { node: 0, holder: 2 });
-    assert_eq!(touched(&work, 13), (400, 0x0002_0001));
-    for i in 0..5 {
-        assert_eq!(touched(&work, 47 + i), (470 + i as usize, u32::MAX));
-    }
     let (work, outcome) = update(&image, true);
     assert_eq!((work.kind, outcome), (Kind::Update { root: 5 }, UPDATED));
-    let journey = words_of(&extended(&bytes_of(&image[52..]), &[0x44; 48]));
-    for i in 0..12 {
-        assert_eq!(
-            touched(&work, 37 + i),
-            (578 + i as usize, journey[i as usize])
-        );
-        assert_eq!(touched(&work, 49 + i).0, 590 + i as usize);
-    }
-    assert_eq!(touched(&work, 0), (0, 0));
-    assert_eq!(touched(&work, 61), (0, 1));
 }
 
 #[test]
@@ -279,7 +260,8 @@ fn odd_image_2_is_well_formed_and_full() {
     let mut image = odd_image_2();
     assert!(well_formed(&image));
     assert_eq!(dpe(&stash(&image, 0).unwrap()), DPE_FULL);
-    assert_eq!(update(&image, true).0.kind, Kind::Update { root: 23 });
+    let root = NODES as u64 - 1;
+    assert_eq!(update(&image, true).0.kind, Kind::Update { root });
     // Two nodes that point at each other.
     image[node(7)] = 6 << 16 | 1;
     assert!(!well_formed(&image));
@@ -291,28 +273,29 @@ fn odd_image_2_is_well_formed_and_full() {
 
 #[test]
 fn damage_that_is_not_well_formed() {
+    let (root, second) = (node(0), node(1));
     let cases: [(usize, u32); 18] = [
-        (434, 0x0005_0000),
-        (1_215, 1),
-        (434, 2),
-        (400, 0xFFFF_0001),
-        (400, 0x01FF_0001),
-        (400, 0x00FF_0002),
-        (400, 0x00FF_8001),
-        (400, 0x0000_0001),
-        (400, 0x0018_0001),
-        (407, 0),
-        (407, 0xC000_0000),
-        (407, 0x8000_0001),
-        (432, 0),
-        (402, u32::MAX),
-        (406, 1),
-        (441, 0x8000_0000),
-        (434, 1),
-        (434, 0x00FF_0001),
+        (second, 0x0005_0000),
+        (IMAGE_WORDS - 1, 1),
+        (second, 2),
+        (root, 0xFFFF_0001),
+        (root, 0x01FF_0001),
+        (root, 0x00FF_0002),
+        (root, 0x00FF_8001),
+        (root, 0x0000_0001),
+        (root, (NODES as u32) << 16 | 1),
+        (root + FLAGS, 0),
+        (root + FLAGS, 0xC000_0000),
+        (root + FLAGS, 0x8000_0001),
+        (root + TYPE, 0),
+        (root + HANDLE, u32::MAX),
+        (root + HANDLE + 4, 1),
+        (second + FLAGS, 0x8000_0000),
+        (second, 1),
+        (second, 0x00FF_0001),
     ];
     for (word, value) in cases {
-        let mut image = booted_image();
+        let mut image = booted();
         image[word] = value;
         assert!(!well_formed(&image), "word {word} = {value:#x}");
         assert_eq!(update(&image, true).1, DISABLED);
@@ -321,14 +304,22 @@ fn damage_that_is_not_well_formed() {
 
 #[test]
 fn what_does_not_count() {
-    for (word, value) in [(2, 5), (3, 5), (4, 0), (16, 1), (40, 0), (401, 9), (433, 9)] {
-        let mut image = booted_image();
+    for (word, value) in [
+        (SPARE, 5),
+        (SPARE + 1, 5),
+        (SECRET, 0),
+        (register(0), 1),
+        (register(CURRENT), 0),
+        (node(0) + TAG, 9),
+        (node(0) + LOCALITY, 9),
+    ] {
+        let mut image = booted();
         image[word] = value;
         assert!(well_formed(&image));
         assert_eq!(update(&image, true).1, UPDATED);
     }
-    for word in 52..64 {
-        let mut image = booted_image();
+    for word in register(JOURNEY)..register(JOURNEY + 1) {
+        let mut image = booted();
         image[word] ^= 1;
         assert!(well_formed(&image));
         assert_eq!(update(&image, true).1, DISABLED);
@@ -337,17 +328,18 @@ fn what_does_not_count() {
 
 #[test]
 fn damaged_works_report_0_and_get_9_and_7() {
-    let mut image = booted_image();
+    let mut image = booted();
     let disabling = open(&image, DISABLE, &[]).unwrap();
     let stash = stash(&image, 1).unwrap();
     let (update, _) = update(&image, true);
     let mut damaged = Vec::new();
-    for position in [16, 1 << 32, 1 << 63, u64::MAX] {
+    let number = DISABLING_STORES as u64;
+    for position in [number + 1, 1 << 32, 1 << 63, u64::MAX] {
         let mut work = disabling.clone();
         work.position = position;
         damaged.push(work);
     }
-    for index in [24, 25, 1 << 32, u64::MAX] {
+    for index in [NODES as u64, NODES as u64 + 1, 1 << 32, u64::MAX] {
         let mut work = stash.clone();
         work.kind = Kind::Stash {
             node: index,
@@ -358,14 +350,14 @@ fn damaged_works_report_0_and_get_9_and_7() {
             node: 1,
             holder: index,
         };
-        work.position = 53;
+        work.position = STASH_STORES as u64;
         damaged.push(work);
         let mut work = update.clone();
         work.kind = Kind::Update { root: index };
         damaged.push(work);
     }
-    for length in [105, 1 << 32, u64::MAX] {
-        for position in [0, 15] {
+    for length in [ANSWER_MAX as u64 + 1, 1 << 32, u64::MAX] {
+        for position in [0, number] {
             let mut work = disabling.clone();
             (work.answer_bytes, work.position) = (length, position);
             damaged.push(work);
@@ -387,9 +379,9 @@ fn damaged_works_report_0_and_get_9_and_7() {
 
 #[test]
 fn the_answer_waits_and_keeps_the_rest_of_the_buffer() {
-    let mut image = booted_image();
+    let mut image = booted();
     let mut work = open(&image, DISABLE, &[]).unwrap();
-    store(&mut work, &mut image, 14);
+    store(&mut work, &mut image, DISABLING_STORES - 1);
     assert_eq!(ENGINE.answer(&work, &mut []), 7);
     store(&mut work, &mut image, 1);
     assert_eq!(ENGINE.store(&mut work, &mut image), 9);
@@ -404,29 +396,28 @@ fn the_answer_waits_and_keeps_the_rest_of_the_buffer() {
 
 #[test]
 fn a_request_over_a_half_stored_work_leaves_it_in_hand() {
-    let stash = |filling: u8| Op::Request {
-        code: STASH,
-        caller: 1,
-        verdict: 0,
-        table: vec![],
-        bytes: sealed(STASH, &[filling; 56]),
+    let stash = |filling: u8| {
+        Op::Request(Mail {
+            code: STASH,
+            caller: 1,
+            verdict: 0,
+            table: vec![],
+            bytes: sealed(STASH, &[filling; 56]),
+        })
+    };
+    let boot = |filling: u8| BootBytes {
+        digest: vec![filling; 48],
+        secret: vec![filling; 48],
     };
     let script = encode(&[
-        Op::Cold {
-            digest: vec![1; 48],
-            secret: vec![2; 48],
-        },
-        Op::Store(1_217),
+        Op::Cold(boot(1)),
+        Op::Store(COLD_STORES as u32),
         stash(1),
         Op::Store(20),
         stash(2),
-        Op::Store(33),
+        Op::Store(STASH_STORES as u32 - 20),
         Op::Answer(12),
-        Op::Update {
-            digest: vec![3; 48],
-            secret: vec![4; 48],
-            verdict: 0,
-        },
+        Op::Update(boot(3), 0),
     ]);
     let mut player = Player::new(ENGINE);
     player.run(&script).expect("the book agrees");
@@ -435,63 +426,70 @@ fn a_request_over_a_half_stored_work_leaves_it_in_hand() {
     assert_eq!(player.seen.looks, 1);
 }
 
+/// Compares every store of a work with the words and values of a table's row,
+/// the fields between the marks.
+fn has_row(work: &Work, row: &[(usize, &[u32])]) {
+    let fields = row
+        .iter()
+        .flat_map(|&(from, values)| (from..).zip(values.iter().copied()));
+    let mut stores = vec![(MARK, 0)];
+    stores.extend(fields);
+    stores.push((MARK, 1));
+    assert_eq!(ENGINE.left(work) as usize, stores.len());
+    for (position, store) in stores.into_iter().enumerate() {
+        assert_eq!(touched(work, position as u64), store, "store {position}");
+    }
+}
+
 #[test]
 fn every_store_goes_where_the_table_says() {
     let image = odd_image_1();
-    let stash = stash(&image, 3).unwrap();
-    let stashed = words_of(&extended(&bytes_of(&image[388..]), &[3; 48]));
+    let old = |word: usize| bytes_of(&image[word..]);
+
+    let stashed = words_of(&extended(&old(register(31)), &[3; 48]));
     let cumulative = words_of(&extended(&ZERO, &[3; 48]));
-    for p in 0..53 {
-        let (word, value) = match p {
-            0 => (0, 0),
-            1..=12 => (388 + p - 1, stashed[p - 1]),
-            13 => (400, 0x0002_0001),
-            14..=20 => (400 + p - 13, 0),
-            21..=32 => (400 + p - 13, 0x0303_0303),
-            33..=44 => (400 + p - 13, cumulative[p - 33]),
-            45 => (432, 0x0303_0303),
-            46 => (433, 0),
-            47..=51 => (470 + p - 47, u32::MAX),
-            _ => (0, 1),
-        };
-        assert_eq!(touched(&stash, p as u64), (word, value), "stash {p}");
-    }
-    let disabling = open(&image, DISABLE, &[]).unwrap();
-    for p in 0..15 {
-        let (word, value) = match p {
-            0 => (0, 0),
-            1 => (1, 0),
-            2..=13 => (4 + p - 2, 0),
-            _ => (0, 1),
-        };
-        assert_eq!(
-            touched(&disabling, p as u64),
-            (word, value),
-            "disabling {p}"
-        );
-    }
-    let (update, _) = update(&image, true);
-    let journey = extended(&bytes_of(&image[52..]), &[0x44; 48]);
+    let mut new = vec![0x0002_0001];
+    new.extend([0; 7]);
+    new.extend([0x0303_0303; 12]);
+    new.extend(cumulative);
+    new.extend([0x0303_0303, 0]);
+    has_row(
+        &stash(&image, 3).unwrap(),
+        &[
+            (register(31), &stashed),
+            (node(0), &new),
+            (node(2) + 2, &[u32::MAX; 5]),
+        ],
+    );
+
+    has_row(
+        &open(&image, DISABLE, &[]).unwrap(),
+        &[(1, &[0]), (4, &[0; 12])],
+    );
+
     let current = words_of(&extended(&ZERO, &[0x44; 48]));
-    let cumulative = words_of(&extended(&bytes_of(&image[590..]), &journey));
+    let journey = extended(&old(register(3)), &[0x44; 48]);
+    let cumulative = words_of(&extended(&old(node(5) + 20), &journey));
     let journey = words_of(&journey);
-    for p in 0..62 {
-        let (word, value) = match p {
-            0 => (0, 0),
-            1..=12 => (40 + p - 1, current[p - 1]),
-            13..=24 => (52 + p - 13, journey[p - 13]),
-            25..=36 => (4 + p - 25, 0x5555_5555),
-            37..=48 => (578 + p - 37, journey[p - 37]),
-            49..=60 => (590 + p - 49, cumulative[p - 49]),
-            _ => (0, 1),
-        };
-        assert_eq!(touched(&update, p as u64), (word, value), "update {p}");
-    }
-    let (cold, _) = ENGINE.open_cold(&image, &[0x11; 48], &[0x22; 48]).unwrap();
-    let booted = booted_image();
-    assert_eq!(touched(&cold, 0), (0, 0));
-    for (word, &value) in booted.iter().enumerate().skip(1) {
-        assert_eq!(touched(&cold, word as u64), (word, value));
-    }
-    assert_eq!(touched(&cold, 1_216), (0, 1));
+    has_row(
+        &update(&image, true).0,
+        &[
+            (register(2), &current),
+            (register(3), &journey),
+            (4, &[0x5555_5555; 12]),
+            (node(5) + 8, &journey),
+            (node(5) + 20, &cumulative),
+        ],
+    );
+
+    let (cold, outcome) = ENGINE.open_cold(&image, BOOTED_WITH).unwrap();
+    assert_eq!(outcome, COLD);
+    has_row(&cold, &[(1, &booted()[1..])]);
+}
+
+#[test]
+fn a_kept_boot_stores_nothing() {
+    let (kept, outcome) = update(&booted(), false);
+    assert_eq!((kept.kind, outcome), (Kind::Nothing, KEPT));
+    assert_eq!((ENGINE.works.number(&kept), ENGINE.left(&kept)), (0, 0));
 }

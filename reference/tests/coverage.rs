@@ -1,12 +1,12 @@
 //! What the first scripts reach, and that the campaign tells.
 
-use reference::book::Slip;
-use reference::campaign::wrong_engines;
+use reference::book::wrong::BOOKS;
+use reference::engine::Engine;
 use reference::generate::{program_input, script};
-use reference::layout::number;
+use reference::layout::*;
 use reference::player::{Player, Seen, NONE_IN_HAND};
-use reference::script::{Op, LETTERS};
-use reference::wrong::Engine;
+use reference::script::{Op, LENT_WORDS, LETTERS};
+use reference::wrong::{caught, GROUPS};
 use std::collections::BTreeSet;
 
 const SEEDS: u64 = 500;
@@ -14,7 +14,7 @@ const SEEDS: u64 = 500;
 fn seen() -> Seen {
     let mut all = Seen::default();
     for seed in 0..SEEDS {
-        let mut player = Player::new(Engine::RIGHT);
+        let mut player = Player::new(Engine::PAPER);
         if let Err(why) = player.run(&script(seed).bytes()) {
             panic!("seed {seed}: {why}");
         }
@@ -60,13 +60,17 @@ fn the_first_scripts_reach_everything() {
         seen.dpe_results.iter().copied().collect::<Vec<_>>(),
         [0, 1, 2]
     );
-    for (kind, number) in [("stash", 53), ("disabling", 15), ("update", 62)] {
-        for position in 0..=number {
+    for (kind, number) in [
+        ("stash", STASH_STORES),
+        ("disabling", DISABLING_STORES),
+        ("update", UPDATE_STORES),
+    ] {
+        for position in 0..=number as u64 {
             assert!(seen.cuts.contains(&(kind, position)), "{kind} {position}");
         }
     }
     let cold = seen.cuts.iter().filter(|(kind, _)| *kind == "cold boot");
-    // All 1,218 positions take about as many seeds.
+    // All positions take about as many seeds as there are.
     assert!(cold.count() > 400);
     assert!(seen.damaged_works > 500, "{}", seen.damaged_works);
     assert!(seen.looks > 1_000, "{}", seen.looks);
@@ -84,10 +88,10 @@ fn the_first_scripts_hold_every_length_and_letter() {
         assert!(script.bytes().len() < 25_000, "seed {seed}");
         assert_eq!(script.ops.last(), Some(&Op::Dump));
         for op in &script.ops {
-            letters.insert(op.bytes()[0]);
+            letters.insert(op.letter());
             match op {
-                Op::Request { bytes, .. } => {
-                    lengths.insert(bytes.len());
+                Op::Request(mail) => {
+                    lengths.insert(mail.bytes.len());
                 }
                 Op::Image(words) => {
                     images.insert(words.len());
@@ -99,7 +103,9 @@ fn the_first_scripts_hold_every_length_and_letter() {
     }
     assert!((0..=260).all(|length| lengths.contains(&length)));
     assert!(LETTERS.iter().all(|letter| letters.contains(letter)));
-    assert!([0, 1, 1_215, 1_216, 1_217, 4_096]
+    let near = [IMAGE_WORDS - 1, IMAGE_WORDS, IMAGE_WORDS + 1];
+    assert!(near.iter().all(|length| images.contains(length)));
+    assert!([0, 1, LENT_WORDS]
         .iter()
         .all(|length| images.contains(length)));
     assert!(tails.iter().any(|letter| !LETTERS.contains(letter)));
@@ -116,23 +122,27 @@ fn a_seed_gives_the_same_script() {
 
 #[test]
 fn every_wrong_engine_is_caught() {
+    let mut names = BTreeSet::new();
     let mut missed = Vec::new();
-    wrong_engines(1_000, |caught| {
+    caught(1_000, |caught| {
+        assert!(names.insert(caught.wrong.name), "a name twice");
         if caught.scripts.is_none() {
-            missed.push(caught.wrong);
+            missed.push(caught.wrong.name);
         }
     });
     assert!(missed.is_empty(), "{missed:?}");
+    let listed = GROUPS.iter().map(|group| group.engines.len());
+    assert_eq!(names.len(), listed.sum::<usize>());
 }
 
 #[test]
 fn every_wrong_book_is_caught_by_the_right_engine() {
-    for slip in Slip::ALL {
+    for book in BOOKS {
         let caught = (0..SEEDS).any(|seed| {
-            let mut player = Player::new(Engine::RIGHT);
-            player.slip = Some(slip);
+            let mut player = Player::new(Engine::PAPER);
+            player.keeper = book.keeper;
             player.run(&script(seed).bytes()).is_err()
         });
-        assert!(caught, "{slip:?}");
+        assert!(caught, "{}", book.name);
     }
 }

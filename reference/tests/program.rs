@@ -99,6 +99,9 @@ fn wrong_words_are_refused() {
         &["script", "x"],
         &["play", "NoSuchEngine"],
         &["wrong", "--size", "3"],
+        &["wrong", "--count", "0"],
+        &["campaign", "--engine", REFERENCE, "--count", "0"],
+        &["mailbox-campaign", "--engine", REFERENCE, "--count", "0"],
     ] {
         assert_eq!(reference(words).status.code(), Some(2), "{words:?}");
     }

@@ -2,7 +2,8 @@
 //! is too long. Operations behind them must not be made.
 
 use super::Maker;
-use crate::script::{Op, LETTERS};
+use crate::layout::COLD_STORES;
+use crate::script::{Op, LENT_WORDS, LETTERS};
 
 impl Maker {
     pub(super) fn broken_tail(&mut self) -> Vec<u8> {
@@ -19,9 +20,10 @@ impl Maker {
                 tail
             }
             1 => {
+                let long = LENT_WORDS as u32 + 1;
                 let count = self.random.pick(&[
-                    4_097,
-                    4_098,
+                    long,
+                    long + 1,
                     0x0001_0000,
                     0x4000_0000,
                     0x4000_0001,
@@ -29,8 +31,8 @@ impl Maker {
                 ]);
                 let mut tail = vec![b'I'];
                 tail.extend_from_slice(&count.to_le_bytes());
-                if count == 4_097 && self.size < 6_000 {
-                    tail.resize(tail.len() + 4 * 4_097, 0);
+                if count == long && self.size < 6_000 {
+                    tail.resize(tail.len() + 4 * long as usize, 0);
                 }
                 tail.extend_from_slice(b"LDLD");
                 tail
@@ -58,7 +60,7 @@ impl Maker {
             1 => self.push_cold(),
             2 => self.push_update(true),
             3 => self.push_stash(),
-            4 => self.push(Op::Store(1_217)),
+            4 => self.push_stores(COLD_STORES),
             5 => self.push(Op::Answer(12)),
             6 => self.push(Op::Set {
                 field: 0,

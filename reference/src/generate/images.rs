@@ -1,58 +1,51 @@
 //! Images that no list reaches: trees of any shape, and damage of every sort.
 
+use super::damage::{Drawn, FAULTS};
 use super::Maker;
 use crate::layout::*;
 use crate::mailbox::booted;
-use crate::script::Op;
+use crate::script::{Op, LENT_WORDS};
 
 /// Well formed: the root at 5, retired; node 9 below it, retired; node 2 below
 /// node 9, the holder, of type RTJM. Node 0 is free.
 pub fn odd_image_1() -> Vec<u32> {
-    let mut image = booted(&[0x11; 48], &[0x22; 48]);
-    let root: Vec<u32> = image[node(0)..node(1)].to_vec();
+    let mut image = booted();
+    image.copy_within(node(0)..node(1), node(5));
     image[node(0)..node(1)].fill(0);
-    image[node(5)..node(6)].copy_from_slice(&root);
-    image[node(5) + HANDLE..][..HANDLE_WORDS].fill(u32::MAX);
+    retire(&mut image, 5);
     image[node(9)] = 0x0005_0001;
-    image[node(9) + HANDLE..][..HANDLE_WORDS].fill(u32::MAX);
+    retire(&mut image, 9);
     image[node(2)] = 0x0009_0001;
-    image[node(2) + 1] = 7;
+    image[node(2) + TAG] = 7;
     image[node(2) + TYPE] = RTJM;
     image[node(2) + LOCALITY] = 4;
     image
 }
 
-/// Well formed with exactly 23 steps: node i's parent is i + 1, the root is
-/// node 23 and node 0 the holder.
+/// Well formed with as many steps as there may be: node i's parent is i + 1,
+/// the root is the last node and node 0 the holder.
 pub fn odd_image_2() -> Vec<u32> {
-    let mut image = booted(&[0x11; 48], &[0x22; 48]);
-    let root: Vec<u32> = image[node(0)..node(1)].to_vec();
-    image[node(NODES - 1)..].copy_from_slice(&root);
+    let mut image = booted();
+    image.copy_within(node(0)..node(1), node(NODES - 1));
     for index in 0..NODES - 1 {
         image[node(index)..node(index + 1)].fill(0);
         image[node(index)] = (index as u32 + 1) << 16 | USED;
     }
     for index in 1..NODES {
-        image[node(index) + HANDLE..][..HANDLE_WORDS].fill(u32::MAX);
+        retire(&mut image, index);
     }
     image
 }
 
-/// An image in the making, with what the damage needs to know.
-struct Drawn {
-    words: Vec<u32>,
-    root: usize,
-    holder: usize,
-    /// Used nodes other than the root.
-    others: Vec<usize>,
-    free: Vec<usize>,
+fn retire(image: &mut [u32], index: usize) {
+    image[node(index) + HANDLE..][..HANDLE_WORDS].copy_from_slice(&RETIRED_HANDLE);
 }
 
 /// A script with more bytes gets no further image.
 const MOST_BEFORE_IMAGE: usize = 13_000;
 
-/// The sorts of damage.
-const FAULTS: usize = 36;
+/// A script with more bytes gets no two images at once.
+const MOST_BEFORE_TWINS: usize = 6_000;
 
 impl Maker {
     pub(super) fn images(&mut self, count: usize) {
@@ -61,8 +54,13 @@ impl Maker {
                 break;
             }
             let words = self.image(turn);
-            self.push(Op::Image(words));
-            self.try_image();
+            let whole = words.len() == IMAGE_WORDS;
+            if whole && self.size < MOST_BEFORE_TWINS && self.random.once_in(12) {
+                self.push_twins(&words);
+            } else {
+                self.push(Op::Image(words));
+                self.try_image();
+            }
         }
     }
 
@@ -78,11 +76,12 @@ impl Maker {
             }
             _ => {
                 let mut drawn = self.drawn();
-                let fault = (self.seed as usize / 4 * 5 + turn * 11) % FAULTS;
-                self.damage(&mut drawn, fault);
-                if self.random.once_in(10) {
-                    let fault = self.random.below(FAULTS);
-                    self.damage(&mut drawn, fault);
+                // The sorts of damage take turns from seed to seed.
+                let fault = (self.seed as usize / 4 * 5 + turn * 11) % FAULTS.len();
+                FAULTS[fault](&mut drawn, &mut self.random);
+                if self.random.once_in(5) {
+                    let fault = self.random.pick(FAULTS);
+                    fault(&mut drawn, &mut self.random);
                 }
                 drawn.words
             }
@@ -107,11 +106,12 @@ impl Maker {
     }
 
     fn image_of_wrong_length(&mut self) -> Vec<u32> {
-        let length = self
-            .random
-            .pick(&[0, 1, 2, 1_215, 1_215, 1_217, 1_217, 4_096, 4_096, 4_096]);
-        let length = if length == 4_096 && self.size > 2_500 {
-            1_214
+        let (short, long) = (IMAGE_WORDS - 1, IMAGE_WORDS + 1);
+        let length = self.random.pick(&[
+            0, 1, 2, short, short, long, long, LENT_WORDS, LENT_WORDS, LENT_WORDS,
+        ]);
+        let length = if length == LENT_WORDS && self.size > 2_500 {
+            short - 1
         } else {
             length
         };
@@ -156,22 +156,26 @@ impl Maker {
             } else {
                 used[above] as u32
             };
-            let handle = if place == holder { 0 } else { u32::MAX };
+            let handle = if place == holder {
+                DEFAULT_HANDLE
+            } else {
+                RETIRED_HANDLE
+            };
             let kind = self.word();
-            let node = &mut words[node(index)..node(index) + NODE_WORDS];
+            let node = &mut words[node(index)..][..NODE_WORDS];
             node.copy_from_slice(&self.random.words(NODE_WORDS));
             node[0] = parent << 16 | USED;
-            node[HANDLE..HANDLE + HANDLE_WORDS].fill(handle);
+            node[HANDLE..][..HANDLE_WORDS].copy_from_slice(&handle);
             node[FLAGS] = if place == 0 { INTERNAL } else { 0 };
             node[TYPE] = if place == 0 { RTJM } else { kind };
         }
         let current = node(used[0]) + NODE_CURRENT;
         words.copy_within(current..current + DIGEST_WORDS, register(JOURNEY));
         if self.random.once_in(3) {
-            words[2..4].fill(0);
+            words[SPARE..SECRET].fill(0);
         }
         if self.random.once_in(4) {
-            words[SECRET..SECRET + DIGEST_WORDS].fill(0);
+            words[SECRET..][..DIGEST_WORDS].fill(0);
         }
         Drawn {
             words,
@@ -179,177 +183,6 @@ impl Maker {
             holder: used[holder],
             others: used[1..].to_vec(),
             free: free.to_vec(),
-        }
-    }
-
-    fn damage(&mut self, drawn: &mut Drawn, fault: usize) {
-        let any_used = {
-            let place = self.random.below(drawn.others.len() + 1);
-            drawn.others.get(place).copied().unwrap_or(drawn.root)
-        };
-        let other = (!drawn.others.is_empty()).then(|| self.random.pick(&drawn.others));
-        let free = (!drawn.free.is_empty()).then(|| self.random.pick(&drawn.free));
-        let odd = self.odd_word();
-        let words = &mut drawn.words;
-        let root = node(drawn.root);
-        let parent = |words: &mut [u32], index: usize, parent: u32| {
-            words[node(index)] = parent << 16 | words[node(index)] & 0xFFFF;
-        };
-        match fault {
-            0 => words[MARK] = odd,
-            1 => words[ATTESTATION] = odd,
-            2 => {
-                // A used node's low half.
-                let low = self.random.pick(&[0, 2, 3, 0x0101, 0x8001, 0xFFFF]);
-                words[node(any_used)] = words[node(any_used)] & 0xFFFF_0000 | low;
-            }
-            3 => {
-                // A free node's low half.
-                if let Some(free) = free {
-                    words[node(free)] = self.random.pick(&[2, 4, 0x0100, 0x8000, 1, 0xFFFE]);
-                }
-            }
-            4 => {
-                // A free node's high half.
-                if let Some(free) = free {
-                    let high = self.random.pick(&[1, 5, 0x00FF, 0xFFFF, 0x8000]);
-                    words[node(free)] = high << 16;
-                }
-            }
-            5 | 6 => {
-                if let Some(free) = free {
-                    let at = self.random.between(1, NODE_WORDS - 1);
-                    words[node(free) + at] = self.random.pick(&[1, 0x8000_0000, u32::MAX]);
-                }
-            }
-            7 => {
-                if let Some(free) = free {
-                    words[node(free) + LOCALITY] = 1;
-                }
-            }
-            8 => {
-                // A second root, as it stands or dressed as one.
-                if let Some(other) = other {
-                    parent(words, other, ROOT_PARENT);
-                    if self.random.once_in(2) {
-                        words[node(other) + FLAGS] = INTERNAL;
-                        words[node(other) + TYPE] = RTJM;
-                    }
-                }
-            }
-            9 => {
-                // No root.
-                parent(words, drawn.root, other.unwrap_or(drawn.root) as u32);
-            }
-            10 => {
-                let odd = self.random.pick(&[0xFFFF, 0x01FF, 0xFF00, 0x00FE, 0x007F]);
-                parent(words, drawn.root, odd);
-            }
-            11 | 12 => {
-                if let Some(other) = other {
-                    let old = words[node(other)] >> 16;
-                    let odd = self.random.pick(&[
-                        24,
-                        25,
-                        31,
-                        0x00FE,
-                        0xFFFF,
-                        0x01FF,
-                        0x0100 | old,
-                        0x0100 | old,
-                        0x8000 | old,
-                    ]);
-                    parent(words, other, odd);
-                }
-            }
-            13 => {
-                if let Some(other) = other {
-                    parent(words, other, other as u32);
-                }
-            }
-            14 | 15 => {
-                // A cycle of two, somewhere below the root.
-                if drawn.others.len() >= 2 {
-                    let place = self.random.between(1, drawn.others.len() - 1);
-                    let (one, two) = (drawn.others[place - 1], drawn.others[place]);
-                    parent(words, one, two as u32);
-                    parent(words, two, one as u32);
-                }
-            }
-            16 => {
-                // A longer cycle.
-                if let (Some(&first), Some(&last)) = (drawn.others.first(), drawn.others.last()) {
-                    let mut above = last;
-                    for &index in &drawn.others {
-                        parent(words, index, above as u32);
-                        above = index;
-                    }
-                    if self.random.once_in(2) && first != last {
-                        // Its entry from one node outside.
-                        parent(words, last, drawn.root as u32);
-                    }
-                }
-            }
-            17 => {
-                if let (Some(other), Some(free)) = (other, free) {
-                    parent(words, other, free as u32);
-                }
-            }
-            18 => {
-                if let Some(other) = other {
-                    words[node(other) + FLAGS] = INTERNAL;
-                }
-            }
-            19 => words[root + FLAGS] = 0,
-            20 => words[root + FLAGS] = INTERNAL | 1 << self.random.below(31),
-            21 => words[node(any_used) + FLAGS] ^= 1 << self.random.below(32),
-            22 => {
-                let bit = self.random.below(32);
-                words[root + TYPE] = self.random.pick(&[RTJM ^ (1 << bit), 0, RTJM.swap_bytes()]);
-            }
-            23 => {
-                if let Some(other) = other {
-                    words[node(other) + TYPE] = RTJM;
-                }
-            }
-            24..=26 => {
-                // A handle that is neither default nor retired.
-                let at = node(any_used) + HANDLE + self.random.below(HANDLE_WORDS);
-                words[at] = match self.random.below(4) {
-                    0 => 1,
-                    1 => 0xFFFF_FFFE,
-                    2 => 0xFFFF_0000,
-                    _ => !words[at],
-                };
-            }
-            27 => {
-                // Only one word of the holder's, or all but one of another's.
-                let at = node(drawn.holder) + HANDLE;
-                words[at..at + HANDLE_WORDS].fill(0);
-                words[at + self.random.below(HANDLE_WORDS)] = u32::MAX;
-            }
-            28 | 29 => {
-                // Two holders.
-                let second = if any_used == drawn.holder {
-                    drawn.root
-                } else {
-                    any_used
-                };
-                words[node(second) + HANDLE..][..HANDLE_WORDS].fill(0);
-            }
-            30 => words[node(drawn.holder) + HANDLE..][..HANDLE_WORDS].fill(u32::MAX),
-            31 => {
-                let at = root + NODE_CURRENT + self.random.below(DIGEST_WORDS);
-                words[at] ^= 1 << self.random.below(32);
-            }
-            32 => {
-                // The last word or the first.
-                let at = self.random.pick(&[0, DIGEST_WORDS - 1]);
-                words[register(JOURNEY) + at] ^= 1 << self.random.below(32);
-            }
-            33 => words[root + NODE_CUMULATIVE] ^= 1,
-            34 => words[MARK] = 0,
-            _ => words[ATTESTATION] = 0,
         }
     }
 
@@ -371,6 +204,11 @@ impl Maker {
             self.push_any_request();
             self.peek();
         }
+        if self.random.once_in(4) {
+            // Neither attestation nor the tree counts.
+            self.push_small_request();
+            self.push(Op::Answer(ANSWER_MAX as u16));
+        }
         for _ in 0..self.random.between(1, 3) {
             match self.random.below(6) {
                 0..=2 => self.push_stash(),
@@ -378,13 +216,12 @@ impl Maker {
                 _ => self.push_disable(),
             }
             if self.random.once_in(4) {
-                let part = self.random.between(0, 62) as u32;
-                self.push(Op::Store(part));
+                let part = self.random.between(0, UPDATE_STORES);
+                self.push_stores(part);
                 self.push(Op::Dump);
             }
             self.finish();
-            let size = self.answer_size();
-            self.push(Op::Answer(size));
+            self.push_answer();
             self.push(Op::Dump);
         }
         if self.random.once_in(3) {

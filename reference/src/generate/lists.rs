@@ -10,14 +10,16 @@ enum Opening {
     Stash,
     Disable,
     Update,
+    /// An update boot of a unit that a command has disabled.
+    BootDisabling,
 }
 
 impl Opening {
     fn number(self) -> usize {
         match self {
-            Opening::Stash => 53,
-            Opening::Disable => 15,
-            Opening::Update => 62,
+            Opening::Stash => STASH_STORES,
+            Opening::Disable | Opening::BootDisabling => DISABLING_STORES,
+            Opening::Update => UPDATE_STORES,
         }
     }
 }
@@ -48,17 +50,21 @@ impl Maker {
         let in_turn = self.seed as usize / 8 * 4 + self.seed as usize % 8 * 2 + turn;
         for position in [2 * in_turn, 2 * in_turn + 1] {
             self.push_cold();
-            self.push(Op::Store((position % 1_218) as u32));
+            self.push_stores(position % (COLD_STORES + 1));
             self.push(Op::Cut);
             self.push(Op::Dump);
             let yes = self.random.once_in(2);
             self.push_update(yes);
         }
-        self.push_cold();
-        self.push(Op::Store(1_217));
+        self.push_booted();
         let before = self.random.below(3);
         self.fill(before);
-        let kinds = [Opening::Stash, Opening::Disable, Opening::Update];
+        let kinds = [
+            Opening::Stash,
+            Opening::Disable,
+            Opening::Update,
+            Opening::BootDisabling,
+        ];
         let all: usize = kinds.iter().map(|kind| kind.number() + 1).sum();
         let mut position = in_turn % all;
         for kind in kinds {
@@ -68,7 +74,7 @@ impl Maker {
             }
             position -= kind.number() + 1;
         }
-        self.push(Op::Store(position as u32));
+        self.push_stores(position);
         if self.random.once_in(2) {
             self.push(Op::Left);
             self.push(Op::Dump);
@@ -83,7 +89,7 @@ impl Maker {
     /// A list that fills the nodes.
     pub(super) fn long_list(&mut self) {
         self.cold_boot();
-        let before = self.random.between(20, 23);
+        let before = self.random.between(NODES - 4, NODES - 1);
         self.fill(before);
         self.push(Op::Dump);
         for _ in 0..self.random.between(1, 5) {
@@ -106,8 +112,8 @@ impl Maker {
         if self.random.once_in(2) {
             self.turn += 1;
             self.push_cold();
-            let position = (self.seed * 7 + self.turn * 313) % 1_218;
-            self.push(Op::Store(position as u32));
+            let position = (self.seed * 7 + self.turn * 313) as usize % (COLD_STORES + 1);
+            self.push_stores(position);
             self.peek();
             if self.random.once_in(3) {
                 // Over it, without a cut.
@@ -126,7 +132,7 @@ impl Maker {
     fn fill(&mut self, count: usize) {
         for _ in 0..count {
             self.push_stash();
-            self.push(Op::Store(53));
+            self.push_stores(STASH_STORES);
         }
     }
 
@@ -181,6 +187,12 @@ impl Maker {
             Opening::Stash => self.push_stash(),
             Opening::Disable => self.push_disable(),
             Opening::Update => self.push_update(true),
+            Opening::BootDisabling => {
+                self.push_disable();
+                self.push_stores(DISABLING_STORES);
+                let yes = self.random.once_in(2);
+                self.push_update(yes);
+            }
         }
     }
 
@@ -209,7 +221,7 @@ impl Maker {
                 self.push(Op::Left);
             }
         } else {
-            self.push(Op::Store(position as u32));
+            self.push_stores(position);
         }
         if self.random.once_in(2) {
             self.push(Op::Dump);
@@ -252,9 +264,9 @@ impl Maker {
         while self.random.once_in(2) {
             let yes = !self.random.once_in(3);
             self.push_update(yes);
-            let most = self.random.pick(&[15, 62]);
+            let most = self.random.pick(&[DISABLING_STORES, UPDATE_STORES]);
             let position = self.random.between(0, most);
-            self.push(Op::Store(position as u32));
+            self.push_stores(position);
             if self.random.once_in(2) {
                 self.push(Op::Cut);
             }
@@ -271,13 +283,12 @@ impl Maker {
     }
 
     /// A request that changes nothing, accepted.
-    fn push_small_request(&mut self) {
+    pub(super) fn push_small_request(&mut self) {
         if self.size < super::ENOUGH && self.random.once_in(3) {
             let table = self.good_table();
             self.push_request(IDENTITY, &[], table, false);
         } else {
-            let body = self.random.bytes(192);
-            self.push_request(VERIFY, &body, Vec::new(), true);
+            self.push_verify(true);
         }
     }
 }

@@ -1,28 +1,14 @@
 //! Requests, sound and damaged.
 
 use super::Maker;
-use crate::checksum::checksum;
+use crate::checksum::{checksum, sealed};
 use crate::layout::*;
 use crate::random::Random;
-use crate::script::Op;
-
-const COMMANDS: [(u32, usize); 4] = [
-    (STASH, STASH_BYTES),
-    (DISABLE, DISABLE_BYTES),
-    (IDENTITY, IDENTITY_BYTES),
-    (VERIFY, VERIFY_BYTES),
-];
-
-/// The bytes of a request with its checksum.
-pub fn sealed(code: u32, body: &[u8]) -> Vec<u8> {
-    let mut bytes = checksum(code, body).to_le_bytes().to_vec();
-    bytes.extend_from_slice(body);
-    bytes
-}
+use crate::script::{Mail, Op};
 
 /// A code that no command has, most of them near one.
 fn unknown_code(random: &mut Random) -> u32 {
-    let (near, _) = random.pick(&COMMANDS);
+    let near = random.pick(&COMMANDS).code;
     let bit = random.below(32);
     let any = random.half();
     let code = random.pick(&[
@@ -38,11 +24,7 @@ fn unknown_code(random: &mut Random) -> u32 {
         0x4944_4543,
         any,
     ]);
-    if COMMANDS.iter().any(|&(known, _)| known == code) {
-        0
-    } else {
-        code
-    }
+    command(code).map_or(code, |_| 0)
 }
 
 /// A checksum that is wrong in a way that somebody could accept.
@@ -71,25 +53,67 @@ fn spoil(random: &mut Random, code: u32, bytes: &mut [u8]) {
 }
 
 impl Maker {
-    pub(super) fn push_request(&mut self, code: u32, body: &[u8], table: Vec<u8>, yes: bool) {
-        let caller = self.word();
-        let verdict = self.verdict(yes);
-        self.push(Op::Request {
+    /// A request of any caller, as it is.
+    fn push_mail(&mut self, code: u32, bytes: Vec<u8>, table: Vec<u8>, yes: bool) {
+        let mail = Mail {
             code,
-            caller,
-            verdict,
+            caller: self.word(),
+            verdict: self.verdict(yes),
             table,
-            bytes: sealed(code, body),
-        });
+            bytes,
+        };
+        self.push(Op::Request(mail));
+    }
+
+    pub(super) fn push_request(&mut self, code: u32, body: &[u8], table: Vec<u8>, yes: bool) {
+        self.push_mail(code, sealed(code, body), table, yes);
+    }
+
+    /// As many random bytes as a command's request has behind the checksum.
+    fn body(&mut self, command: Command) -> Vec<u8> {
+        self.random.bytes(command.request_bytes - CHECKSUM_BYTES)
+    }
+
+    /// A signature of any bytes.
+    pub(super) fn push_verify(&mut self, yes: bool) {
+        let body = self.random.bytes(192);
+        self.push_request(VERIFY, &body, Vec::new(), yes);
     }
 
     pub(super) fn push_stash(&mut self) {
-        let mut body = self.word().to_le_bytes().to_vec();
-        body.extend(self.digest());
-        body.extend(self.word().to_le_bytes());
+        let body = self.stash_body();
         let table = self.idle_table();
         let yes = self.random.once_in(2);
         self.push_request(STASH, &body, table, yes);
+    }
+
+    /// A stash's type, digest and svn.
+    fn stash_body(&mut self) -> Vec<u8> {
+        let mut body = self.word().to_le_bytes().to_vec();
+        body.extend(self.digest());
+        body.extend(self.word().to_le_bytes());
+        body
+    }
+
+    /// Two whole stashes on the same image, alike but for the svn.
+    pub(super) fn push_twins(&mut self, image: &[u32]) {
+        let mut body = self.stash_body();
+        let caller = self.word();
+        for _ in 0..2 {
+            self.push(Op::Image(image.to_vec()));
+            let mail = Mail {
+                code: STASH,
+                caller,
+                verdict: 0,
+                table: Vec::new(),
+                bytes: sealed(STASH, &body),
+            };
+            self.push(Op::Request(mail));
+            self.push_stores(STASH_STORES);
+            self.push(Op::Answer(12));
+            self.push(Op::Dump);
+            body[STASH_SVN - CHECKSUM_BYTES] ^= 0xFF;
+        }
     }
 
     pub(super) fn push_disable(&mut self) {
@@ -98,8 +122,11 @@ impl Maker {
         self.push_request(DISABLE, &[], table, yes);
     }
 
-    /// A table that no rule looks at.
+    /// A table that no rule looks at: mostly short, now and then like a real one.
     fn idle_table(&mut self) -> Vec<u8> {
+        if self.size < super::ENOUGH && self.random.once_in(60) {
+            return self.any_table();
+        }
         let length = self.random.pick(&[0, 0, 0, 0, 1, 8]);
         self.random.bytes(length)
     }
@@ -109,6 +136,13 @@ impl Maker {
         table[..4].copy_from_slice(&TABLE_MARKER.to_le_bytes());
         table[4..6].copy_from_slice(&TABLE_MAJOR.to_le_bytes());
         table
+    }
+
+    fn any_table(&mut self) -> Vec<u8> {
+        match self.random.below(3) {
+            0 => self.good_table(),
+            _ => self.bad_table(),
+        }
     }
 
     fn bad_table(&mut self) -> Vec<u8> {
@@ -140,50 +174,45 @@ impl Maker {
         match self.random.below(6) {
             0..=2 => self.push_stash(),
             3 => self.push_disable(),
-            4 => {
-                let body = self.random.bytes(192);
-                self.push_request(VERIFY, &body, Vec::new(), true);
-            }
+            4 => self.push_verify(true),
             _ => self.push_request(IDENTITY, &[], Vec::new(), true),
         }
     }
 
     /// A request that is refused whatever the image holds.
     pub(super) fn push_refused_request(&mut self) {
-        let (code, length) = self.random.pick(&COMMANDS);
-        let body = self.random.bytes(length - 4);
-        let caller = self.word();
+        let command = self.random.pick(&COMMANDS);
+        let body = self.body(command);
         let yes = self.random.once_in(2);
-        let mut request = (code, Vec::new(), sealed(code, &body), self.verdict(yes));
         match self.random.below(6) {
             0 => {
-                request.0 = unknown_code(&mut self.random);
-                request.2 = sealed(request.0, &body);
+                let code = unknown_code(&mut self.random);
+                self.push_request(code, &body, Vec::new(), yes);
             }
             1 => {
-                let length = self.random.pick(&[0, 3, 5, 8, 59, 61, 195, 197]);
-                request.2 = sealed(code, &self.random.bytes(length));
-                request.2.truncate(length);
-                if length == 0 && code != VERIFY {
-                    request.2 = sealed(code, &self.random.bytes(256));
-                }
+                let length = self.random.pick(&[0, 3, 5, 8, 59, 61, 195, 197, 260]);
+                let bytes = self.of_length(command.code, length);
+                self.push_mail(command.code, bytes, Vec::new(), yes);
             }
-            2 | 3 => spoil(&mut self.random, code, &mut request.2),
-            4 => request = (IDENTITY, self.random.bytes(7), sealed(IDENTITY, &[]), 1),
-            _ => {
-                let body = self.random.bytes(192);
-                let no = self.verdict(false);
-                request = (VERIFY, Vec::new(), sealed(VERIFY, &body), no);
+            2 | 3 => {
+                let mut bytes = sealed(command.code, &body);
+                spoil(&mut self.random, command.code, &mut bytes);
+                self.push_mail(command.code, bytes, Vec::new(), yes);
             }
+            4 => {
+                let table = self.random.bytes(7);
+                self.push_request(IDENTITY, &[], table, true);
+            }
+            _ => self.push_verify(false),
         }
-        let (code, table, bytes, verdict) = request;
-        self.push(Op::Request {
-            code,
-            caller,
-            verdict,
-            table,
-            bytes,
-        });
+    }
+
+    /// A request of so many bytes, its checksum right for them.
+    fn of_length(&mut self, code: u32, length: usize) -> Vec<u8> {
+        match length.checked_sub(CHECKSUM_BYTES) {
+            Some(rest) => sealed(code, &self.random.bytes(rest)),
+            None => self.random.bytes(length),
+        }
     }
 
     /// Many requests on one image: every length, every fault.
@@ -204,39 +233,39 @@ impl Maker {
         for _ in 0..self.random.between(2, 4) {
             self.push_identity();
             self.push(Op::Left);
-            let size = self.random.pick(&[103, 104, 104, 104, 105, 200]);
+            let most = ANSWER_MAX as u16;
+            let size = self
+                .random
+                .pick(&[most - 1, most, most, most, most + 1, 200]);
             self.push(Op::Answer(size));
         }
         for _ in 0..self.random.between(0, 4) {
             self.push_bad_boot();
         }
-        self.push_verify();
+        self.push_signature();
         self.push(Op::Answer(9));
         self.push_any_request();
         self.finish();
-        for _ in 0..2 {
-            let size = self.answer_size();
-            self.push(Op::Answer(size));
-        }
+        self.push_answer();
+        self.push_answer();
         self.push(Op::Dump);
     }
 
     /// An image that requests can be tried on: on, off or unfinished.
     fn ready_unit(&mut self) {
-        self.push_cold();
-        self.push(Op::Store(1_217));
+        self.push_booted();
         match self.random.below(4) {
             0 => {
                 self.push_disable();
-                self.push(Op::Store(15));
+                self.push_stores(DISABLING_STORES);
             }
             1 if self.random.once_in(3) => {
                 self.push_stash();
-                self.push(Op::Store(20));
+                self.push_stores(20);
             }
             _ => {
                 self.push_stash();
-                self.push(Op::Store(53));
+                self.push_stores(STASH_STORES);
             }
         }
     }
@@ -244,88 +273,55 @@ impl Maker {
     /// A request of a given length, or of about the right one; its checksum is
     /// mostly right for that length.
     fn push_of_length(&mut self, length: Option<usize>) {
-        let (mut code, right_length) = self.random.pick(&COMMANDS);
+        let command = self.random.pick(&COMMANDS);
+        let mut code = command.code;
         if self.random.once_in(8) {
             code = unknown_code(&mut self.random);
         }
-        let near = self.random.pick(&[
-            right_length,
-            right_length,
-            right_length - 1,
-            right_length + 1,
-        ]);
-        let length = length.unwrap_or(near);
-        let mut bytes = if length >= 4 {
-            let body = self.random.bytes(length - 4);
-            sealed(code, &body)
-        } else {
-            self.random.bytes(length)
-        };
+        let right = command.request_bytes;
+        let near = self.random.pick(&[right, right, right - 1, right + 1]);
+        let mut bytes = self.of_length(code, length.unwrap_or(near));
         if self.random.once_in(3) {
             spoil(&mut self.random, code, &mut bytes);
         }
-        let caller = self.word();
         let yes = self.random.once_in(2);
-        let verdict = self.verdict(yes);
         let table = self.idle_table();
-        self.push(Op::Request {
-            code,
-            caller,
-            verdict,
-            table,
-            bytes,
-        });
+        self.push_mail(code, bytes, table, yes);
     }
 
     /// An identity key with a table that may be damaged, as may its checksum.
     fn push_identity(&mut self) {
-        let table = if self.random.once_in(3) {
-            self.good_table()
-        } else {
-            self.bad_table()
-        };
+        let table = self.any_table();
         let mut bytes = sealed(IDENTITY, &[]);
         if self.random.once_in(6) {
             spoil(&mut self.random, IDENTITY, &mut bytes);
         }
-        let caller = self.word();
-        let verdict = self.verdict(true);
-        self.push(Op::Request {
-            code: IDENTITY,
-            caller,
-            verdict,
-            table,
-            bytes,
-        });
+        self.push_mail(IDENTITY, bytes, table, true);
     }
 
-    fn push_verify(&mut self) {
-        let body = self.random.bytes(192);
-        let mut bytes = sealed(VERIFY, &body);
+    /// A signature with any verdict, whose checksum may be damaged.
+    fn push_signature(&mut self) {
+        let mut bytes = sealed(VERIFY, &self.random.bytes(192));
         if self.random.once_in(3) {
             spoil(&mut self.random, VERIFY, &mut bytes);
         }
-        let caller = self.word();
         let yes = self.random.once_in(2);
-        let verdict = self.verdict(yes);
-        self.push(Op::Request {
-            code: VERIFY,
-            caller,
-            verdict,
-            table: Vec::new(),
-            bytes,
-        });
+        self.push_mail(VERIFY, bytes, Vec::new(), yes);
     }
 }
 
 /// An input of the small program.
 pub fn program_input(seed: u64) -> Vec<u8> {
     let mut random = Random::from_seed(seed ^ 0x6D61_696C_626F_7800);
-    let (code, length) = random.pick(&COMMANDS);
-    let body = match random.below(3) {
-        0 => vec![0; length - 4],
-        _ => random.bytes(length - 4),
-    };
+    let Command {
+        code,
+        request_bytes,
+        ..
+    } = random.pick(&COMMANDS);
+    let mut body = random.bytes(request_bytes - CHECKSUM_BYTES);
+    if random.once_in(3) {
+        body.fill(0);
+    }
     let mut bytes = sealed(code, &body);
     let mut first = code;
     match random.below(12) {
@@ -341,7 +337,7 @@ pub fn program_input(seed: u64) -> Vec<u8> {
             bytes = sealed(code, &random.bytes(length));
         }
         6 => {
-            bytes.truncate(random.below(length + 1));
+            bytes.truncate(random.below(request_bytes + 1));
         }
         7 => {
             // Shorter than a code.

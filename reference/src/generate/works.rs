@@ -1,37 +1,39 @@
 //! Works whose parts are set from outside, damaged ones included.
 
 use super::Maker;
+use crate::layout::*;
 use crate::script::Op;
 
 impl Maker {
     pub(super) fn works(&mut self, count: usize) {
-        self.push_cold();
-        self.push(Op::Store(1_217));
+        self.push_booted();
         self.push_stash();
-        self.push(Op::Store(53));
+        self.push_stores(STASH_STORES);
         for _ in 0..count {
             self.work();
         }
         self.push(Op::Dump);
     }
 
-    fn work(&mut self) {
-        let (number, length) = match self.random.below(10) {
+    /// Opens a work: its number of stores and the length of its answer.
+    fn open_some(&mut self) -> (usize, usize) {
+        let answer = |code: u32| command(code).map_or(0, |command| command.answer_bytes);
+        match self.random.below(10) {
             0..=2 => {
                 self.push_stash();
-                (53, 12)
+                (STASH_STORES, answer(STASH))
             }
             3 => {
                 self.push_disable();
-                (15, 8)
+                (DISABLING_STORES, answer(DISABLE))
             }
             4 | 5 => {
                 self.push_update(true);
-                (62, 0)
+                (UPDATE_STORES, 0)
             }
             6 => {
                 self.push_cold();
-                (1_217, 0)
+                (COLD_STORES, 0)
             }
             7 => {
                 self.push_update(false);
@@ -40,21 +42,26 @@ impl Maker {
             8 => {
                 let table = self.good_table();
                 if self.size < super::ENOUGH {
-                    self.push_request(crate::layout::IDENTITY, &[], table, true);
+                    self.push_request(IDENTITY, &[], table, true);
                 } else {
                     self.push_any_request();
                 }
-                (0, 104)
+                (0, answer(IDENTITY))
             }
             _ => {
                 self.push(Op::Cut);
-                (15, 8)
+                (DISABLING_STORES, answer(DISABLE))
             }
-        };
-        if self.random.once_in(3) {
-            let made = self.random.between(0, number.min(70) as usize) as u32;
-            self.push(Op::Store(made));
         }
+    }
+
+    fn work(&mut self) {
+        let (number, length) = self.open_some();
+        if self.random.once_in(3) {
+            let made = self.random.between(0, number.min(70));
+            self.push_stores(made);
+        }
+        let (number, length) = (number as u64, length as u64);
         for _ in 0..self.random.between(1, 4) {
             self.set_part(number, length);
             self.use_work(number);
@@ -62,17 +69,18 @@ impl Maker {
         if self.random.once_in(2) {
             // Mended, it is as good as before.
             self.set(3, length);
-            let node = self.random.below(24) as u64;
+            let node = self.random.below(NODES) as u64;
             self.set(1, node);
-            let holder = self.random.below(24) as u64;
+            let other = self.random.below(NODES) as u64;
+            let holder = self.random.pick(&[other, other, node]);
             self.set(2, holder);
             let position = self.random.pick(&[0, 0, number / 2, number]);
             self.set(0, position);
             self.use_work(number);
             self.finish();
-            let size = self.answer_size();
-            self.push(Op::Answer(size));
+            self.push_answer();
             self.push(Op::Dump);
+            self.spoil_finished(number, length);
         }
         if self.random.once_in(3) {
             let yes = self.random.once_in(2);
@@ -80,8 +88,27 @@ impl Maker {
             self.finish();
         }
         if self.random.once_in(4) {
-            self.push_cold();
-            self.push(Op::Store(1_217));
+            self.push_booted();
+        }
+    }
+
+    /// A finished work with one part past its bound, and mended again; then all
+    /// its stores once more, on the image that they have changed.
+    fn spoil_finished(&mut self, number: u64, length: u64) {
+        self.set(0, number);
+        let (nodes, most) = (NODES as u64, ANSWER_MAX as u64);
+        for (field, past, fine) in [(3, most + 1, length), (1, nodes, 0), (2, nodes, 0)] {
+            self.set(field, past);
+            self.push(Op::Left);
+            self.push(Op::Store(1));
+            self.push(Op::Answer(ANSWER_MAX as u16));
+            self.set(field, fine);
+        }
+        self.push(Op::Answer(ANSWER_MAX as u16));
+        if self.random.once_in(2) {
+            self.set(0, 0);
+            self.finish();
+            self.push(Op::Dump);
         }
     }
 
@@ -93,6 +120,9 @@ impl Maker {
         let field = self.random.pick(&[0, 0, 0, 1, 1, 2, 2, 3, 3, 4, 255]);
         let near = self.random.between(0, 65) as u64;
         let inside = self.random.between(0, number as usize) as u64;
+        let (nodes, most) = (NODES as u64, ANSWER_MAX as u64);
+        let node_field = 1 + DIGEST_WORDS as u64;
+        let handle_field = node_field + NODE_WORDS as u64;
         let value = match field {
             0 => self.random.pick(&[
                 0,
@@ -104,10 +134,10 @@ impl Maker {
                 near,
                 inside,
                 inside,
-                13,
-                46,
-                47,
-                51,
+                node_field,
+                handle_field - 1,
+                handle_field,
+                handle_field + HANDLE_WORDS as u64 - 1,
                 1 << 32,
                 (1 << 32) + number,
                 (1 << 32) + near,
@@ -118,21 +148,21 @@ impl Maker {
                 0,
                 1,
                 5,
-                22,
-                23,
-                23,
-                24,
-                24,
-                25,
+                nodes - 2,
+                nodes - 1,
+                nodes - 1,
+                nodes,
+                nodes,
+                nodes + 1,
                 255,
                 1 << 16,
                 1 << 32,
                 (1 << 32) + 5,
-                (1 << 32) + 23,
+                (1 << 32) + nodes - 1,
                 1 << 63,
                 u64::MAX,
-                u64::MAX / 34,
-                u64::MAX / 34 + 1,
+                u64::MAX / NODE_WORDS as u64,
+                u64::MAX / NODE_WORDS as u64 + 1,
             ]),
             _ => self.random.pick(&[
                 0,
@@ -141,11 +171,11 @@ impl Maker {
                 length.wrapping_sub(1),
                 length + 1,
                 8,
-                103,
-                104,
-                105,
-                105,
-                106,
+                most - 1,
+                most,
+                most + 1,
+                most + 1,
+                most + 2,
                 1 << 16,
                 1 << 32,
                 (1 << 32) + length,
@@ -160,8 +190,7 @@ impl Maker {
     fn use_work(&mut self, number: u64) {
         self.push(Op::Left);
         if self.random.once_in(2) {
-            let size = self.answer_size();
-            self.push(Op::Answer(size));
+            self.push_answer();
         }
         if self.random.once_in(5) {
             // Positions decide where the image is touched: all of it is shown.
@@ -174,8 +203,7 @@ impl Maker {
             self.push(Op::Left);
         }
         if self.random.once_in(2) {
-            let size = self.answer_size();
-            self.push(Op::Answer(size));
+            self.push_answer();
         }
         if self.random.once_in(4) {
             self.push(Op::Dump);

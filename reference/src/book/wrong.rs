@@ -1,0 +1,202 @@
+//! Books that are wrong on purpose: the right engine has to disagree with them.
+
+use super::{Book, Event, Look, Opened, State};
+use crate::boots::{Boots, Inputs};
+use crate::engine::Paper;
+use crate::requests::Request;
+
+/// How a book is kept.
+pub trait Keeper {
+    fn request(&self, book: &mut Book, request: Request) -> Opened {
+        book.request(request)
+    }
+
+    fn update(&self, book: &mut Book, inputs: Inputs, verdict: bool) -> (Opened, Option<Look>) {
+        book.update(inputs, verdict)
+    }
+
+    fn store(&self, book: &mut Book) -> (u32, Option<Look>) {
+        book.store()
+    }
+
+    fn cut(&self, book: &mut Book) {
+        book.cut();
+    }
+}
+
+/// Keeps the book as it is.
+pub struct Fair;
+
+impl Keeper for Fair {}
+
+/// A wrong book: its name, what it does instead, and its keeper.
+pub struct WrongBook {
+    pub name: &'static str,
+    pub says: &'static str,
+    pub keeper: &'static dyn Keeper,
+}
+
+const fn book(name: &'static str, says: &'static str, keeper: &'static dyn Keeper) -> WrongBook {
+    WrongBook { name, says, keeper }
+}
+
+pub const BOOKS: &[WrongBook] = &[
+    book(
+        "OffBeforeGoes",
+        "an update boot looks at off before the work in hand goes",
+        &OffBeforeGoes,
+    ),
+    book(
+        "TornByCutsOnly",
+        "only a cut tears, not another opening",
+        &TornByCutsOnly,
+    ),
+    book(
+        "TornUnstarted",
+        "a work that has not stored yet is torn too",
+        &TornUnstarted,
+    ),
+    book("NeverTorn", "nothing is ever torn", &NeverTorn),
+    book(
+        "StaysUnfinished",
+        "the last store leaves the book unfinished",
+        &StaysUnfinished,
+    ),
+    book(
+        "RefusalDropsHand",
+        "a refused opening drops the work in hand",
+        &RefusalDropsHand,
+    ),
+    book(
+        "DisableForgotten",
+        "a counted disable command is left out of the history",
+        &Forgotten(|event| matches!(event, Event::DisableCommand)),
+    ),
+    book(
+        "StashForgotten",
+        "a counted stash is left out of the history",
+        &Forgotten(|event| matches!(event, Event::Stash(_))),
+    ),
+    book(
+        "UpdateForgotten",
+        "a counted update is left out of the history",
+        &Forgotten(|event| matches!(event, Event::Update(_))),
+    ),
+];
+
+struct OffBeforeGoes;
+
+impl Keeper for OffBeforeGoes {
+    fn update(&self, book: &mut Book, inputs: Inputs, verdict: bool) -> (Opened, Option<Look>) {
+        let mut after = book.clone();
+        after.goes();
+        untorn(book, inputs);
+        let opened = book.update(inputs, verdict);
+        if opened.0.number == 0 {
+            book.torn = after.torn;
+        }
+        opened
+    }
+}
+
+struct TornByCutsOnly;
+
+impl Keeper for TornByCutsOnly {
+    fn update(&self, book: &mut Book, inputs: Inputs, verdict: bool) -> (Opened, Option<Look>) {
+        untorn(book, inputs);
+        book.update(inputs, verdict)
+    }
+}
+
+struct TornUnstarted;
+
+impl Keeper for TornUnstarted {
+    fn request(&self, book: &mut Book, request: Request) -> Opened {
+        let torn = book.torn || is_unstarted(book);
+        let opened = book.request(request);
+        if opened.number == 0 {
+            book.torn = torn;
+        }
+        opened
+    }
+
+    fn update(&self, book: &mut Book, inputs: Inputs, verdict: bool) -> (Opened, Option<Look>) {
+        book.torn |= is_unstarted(book) && Paper.boot(inputs).is_some();
+        book.update(inputs, verdict)
+    }
+
+    fn cut(&self, book: &mut Book) {
+        book.torn |= is_unstarted(book);
+        book.cut();
+    }
+}
+
+struct NeverTorn;
+
+impl Keeper for NeverTorn {
+    fn update(&self, book: &mut Book, inputs: Inputs, verdict: bool) -> (Opened, Option<Look>) {
+        untorn(book, inputs);
+        book.update(inputs, verdict)
+    }
+
+    fn cut(&self, book: &mut Book) {
+        book.in_hand = None;
+    }
+}
+
+struct StaysUnfinished;
+
+impl Keeper for StaysUnfinished {
+    fn store(&self, book: &mut Book) -> (u32, Option<Look>) {
+        let before = book.left();
+        let stored = book.store();
+        book.unfinished |= book.left() != before;
+        stored
+    }
+}
+
+struct RefusalDropsHand;
+
+impl Keeper for RefusalDropsHand {
+    fn request(&self, book: &mut Book, request: Request) -> Opened {
+        let opened = book.request(request);
+        if opened.number != 0 {
+            book.cut();
+        }
+        opened
+    }
+
+    fn update(&self, book: &mut Book, inputs: Inputs, verdict: bool) -> (Opened, Option<Look>) {
+        let opened = book.update(inputs, verdict);
+        if opened.0.number != 0 {
+            book.cut();
+        }
+        opened
+    }
+}
+
+/// Leaves counted work of a kind out.
+struct Forgotten(fn(&Event) -> bool);
+
+impl Keeper for Forgotten {
+    fn store(&self, book: &mut Book) -> (u32, Option<Look>) {
+        let stored = book.store();
+        if book.history.last().is_some_and(self.0) {
+            book.history.pop();
+            book.state = State::replay(&book.history);
+        }
+        stored
+    }
+}
+
+/// The work in hand goes without a tear, if the boot is not refused.
+fn untorn(book: &mut Book, inputs: Inputs) {
+    if Paper.boot(inputs).is_some() {
+        book.in_hand = None;
+    }
+}
+
+fn is_unstarted(book: &Book) -> bool {
+    let hand = book.in_hand.as_ref();
+    hand.is_some_and(|hand| hand.made == 0 && hand.left() > 0)
+}

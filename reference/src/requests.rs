@@ -1,0 +1,195 @@
+//! "Mailbox": a request's order of numbers, what a command comes to, and the
+//! work that it opens. An opening reads the image and changes nothing.
+
+use crate::checksum::{checksum, sealed};
+use crate::layout::*;
+use crate::memory::Unit;
+use crate::work::{Kind, Work};
+
+/// A request as the host hands it over.
+#[derive(Clone, Copy)]
+pub struct Request<'a> {
+    pub code: u32,
+    pub bytes: &'a [u8],
+    pub caller: u32,
+    pub table: &'a [u8],
+    pub verdict: bool,
+}
+
+impl Request<'_> {
+    /// A request of caller 0 without a handoff table; the verdict is no.
+    pub fn plain(code: u32, bytes: &[u8]) -> Request<'_> {
+        Request {
+            code,
+            bytes,
+            caller: 0,
+            table: &[],
+            verdict: false,
+        }
+    }
+}
+
+/// What the request rules look at: in the image, or in the book.
+#[derive(Clone, Copy)]
+pub struct View {
+    pub whole: bool,
+    pub done: bool,
+    pub on: bool,
+    pub well_formed: bool,
+    pub full: bool,
+}
+
+impl View {
+    /// What the request rules see of an image.
+    pub fn of(unit: Unit) -> View {
+        let whole = unit.image.len() == IMAGE_WORDS;
+        View {
+            whole,
+            done: !unit.image.is_empty() && unit.is_done(),
+            on: whole && unit.is_on(),
+            well_formed: whole && unit.is_well_formed(),
+            full: whole && unit.free_node().is_none(),
+        }
+    }
+}
+
+/// What an accepted request is to do.
+#[derive(Clone, Debug, PartialEq, Eq)]
+pub enum Task {
+    Stash(Stash),
+    Disable,
+    Nothing,
+}
+
+/// A stash's inputs.
+#[derive(Clone, Debug, PartialEq, Eq)]
+pub struct Stash {
+    pub kind: u32,
+    pub digest: Digest,
+    pub svn: u32,
+    pub caller: u32,
+}
+
+impl Stash {
+    /// The inputs in a request of the right length.
+    pub fn of(request: Request) -> Stash {
+        Stash {
+            kind: little(&request.bytes[STASH_TYPE..]),
+            digest: std::array::from_fn(|i| request.bytes[STASH_DIGEST + i]),
+            svn: little(&request.bytes[STASH_SVN..]),
+            caller: request.caller,
+        }
+    }
+}
+
+/// An accepted request: its task and its answer.
+pub struct Accepted {
+    pub task: Task,
+    pub answer: Vec<u8>,
+}
+
+/// A number and whether it applies.
+pub type Refusal = (u32, bool);
+
+/// The request rules, each a method, so that an engine can be wrong in just one.
+pub trait Requests {
+    /// Opens a request.
+    fn open(&self, unit: Unit, request: Request) -> Result<Work, u32> {
+        let Accepted { task, answer } = self.decide(&View::of(unit), request)?;
+        Ok(match task {
+            Task::Nothing => Work::new(Kind::Nothing, &answer),
+            Task::Disable => Work::new(Kind::Disabling, &answer),
+            Task::Stash(stash) => self.stash_work(unit, &stash, &answer),
+        })
+    }
+
+    /// A request's number if one applies; else its task and its answer.
+    fn decide(&self, view: &View, request: Request) -> Result<Accepted, u32> {
+        let order = self.order(view, request);
+        if let Some(&(number, _)) = order.iter().find(|(_, applies)| *applies) {
+            return Err(number);
+        }
+        let (task, body) = match request.code {
+            STASH => {
+                let result = self.stash_result(view)?;
+                let task = match result {
+                    DPE_DONE => Task::Stash(Stash::of(request)),
+                    _ => Task::Nothing,
+                };
+                (task, result.to_le_bytes().to_vec())
+            }
+            DISABLE => (Task::Disable, vec![]),
+            IDENTITY => (Task::Nothing, request.table[KEY_AT..][..KEY_BYTES].to_vec()),
+            _ => (Task::Nothing, vec![]),
+        };
+        let status = 0u32.to_le_bytes();
+        let answer = sealed(request.code, &[&status, &body[..]].concat());
+        Ok(Accepted { task, answer })
+    }
+
+    /// The request order, top down.
+    fn order(&self, view: &View, request: Request) -> Vec<Refusal> {
+        let Request { code, bytes, .. } = request;
+        vec![
+            (number::IMAGE, !view.whole),
+            (number::UNFINISHED, !view.done),
+            (number::CODE, command(code).is_none()),
+            (number::LENGTH, !self.length_fine(code, bytes)),
+            (number::CHECKSUM, !self.checksum_fine(code, bytes)),
+            (
+                number::TABLE,
+                code == IDENTITY && !self.table_fine(request.table),
+            ),
+            (number::SIGNATURE, code == VERIFY && !request.verdict),
+        ]
+    }
+
+    fn length_fine(&self, code: u32, bytes: &[u8]) -> bool {
+        command(code).is_some_and(|command| bytes.len() == command.request_bytes)
+    }
+
+    fn checksum_fine(&self, code: u32, bytes: &[u8]) -> bool {
+        let parts = bytes.split_at_checked(CHECKSUM_BYTES);
+        parts.is_some_and(|(field, rest)| little(field) == checksum(code, rest))
+    }
+
+    /// Length, marker and major version of a handoff table.
+    fn table_fine(&self, table: &[u8]) -> bool {
+        table.len() == TABLE_BYTES
+            && little(table) == TABLE_MARKER
+            && table[TABLE_MAJOR_AT..][..2] == TABLE_MAJOR.to_le_bytes()
+    }
+
+    /// A stash's dpe result, or a refusal.
+    fn stash_result(&self, view: &View) -> Result<u32, u32> {
+        if !view.on {
+            return Ok(DPE_OFF);
+        }
+        if !view.well_formed {
+            return Err(number::TREE);
+        }
+        if view.full {
+            return Ok(DPE_FULL);
+        }
+        Ok(DPE_DONE)
+    }
+
+    /// An accepted stash: there is a free node, and a holder.
+    fn stash_work(&self, unit: Unit, stash: &Stash, answer: &[u8]) -> Work {
+        let free = unit.free_node().unwrap_or_default();
+        let holder = unit.holder().unwrap_or_default();
+        let kind = Kind::Stash {
+            node: free as u64,
+            holder: holder as u64,
+        };
+        let stashed = extended(&unit.bytes_at(register(STASHED)), &stash.digest);
+        let mut work = Work::new(kind, answer);
+        work.stashed = words_of(&stashed);
+        work.node[0] = (holder as u32) << 16 | USED;
+        work.set_node(NODE_CURRENT, &stash.digest);
+        work.set_node(NODE_CUMULATIVE, &extended(&ZERO, &stash.digest));
+        work.node[TYPE] = stash.kind;
+        work.node[LOCALITY] = stash.caller;
+        work
+    }
+}

@@ -1,0 +1,71 @@
+//! How many scripts it takes until each wrong engine is caught.
+
+use super::{Wrong, GROUPS};
+use crate::generate::{program_input, script};
+use crate::mailbox::{mailbox, mailbox_on};
+use crate::player::{play, play_unwatched, Player};
+
+/// How a wrong engine fares.
+pub struct Caught {
+    pub wrong: Wrong,
+    /// Scripts until the outputs differ, if they do.
+    pub scripts: Option<u64>,
+    /// Scripts until the book beside it disagrees, if it does.
+    pub book: Option<u64>,
+}
+
+/// A script and what the right engine writes for it.
+type Played = (Vec<u8>, Vec<u8>);
+
+/// Plays every wrong engine until it is caught, `count` scripts at most.
+pub fn caught(count: u64, mut each: impl FnMut(&Caught)) {
+    let mut played = Vec::new();
+    for group in GROUPS {
+        for &wrong in group.engines {
+            each(&if group.of_program {
+                of_program(wrong, count)
+            } else {
+                of_entries(wrong, count, &mut played)
+            });
+        }
+    }
+}
+
+fn of_program(wrong: Wrong, count: u64) -> Caught {
+    let mut inputs = (0..count).map(program_input);
+    let differs = |input: Vec<u8>| mailbox_on(wrong.engine, &input) != mailbox(&input);
+    Caught {
+        wrong,
+        scripts: inputs.position(differs).map(|seed| seed as u64 + 1),
+        book: None,
+    }
+}
+
+/// The book is looked at for as long, and a little longer.
+const BOOK_SCRIPTS: u64 = 200;
+
+fn of_entries(wrong: Wrong, count: u64, played: &mut Vec<Played>) -> Caught {
+    let mut caught = Caught {
+        wrong,
+        scripts: None,
+        book: None,
+    };
+    for seed in 0..count {
+        if played.len() as u64 == seed {
+            let input = script(seed).bytes();
+            let output = play(&input);
+            played.push((input, output));
+        }
+        let (input, output) = &played[seed as usize];
+        if caught.book.is_none() && Player::new(wrong.engine).run(input).is_err() {
+            caught.book = Some(seed + 1);
+        }
+        if caught.scripts.is_none() && play_unwatched(wrong.engine, input) != *output {
+            caught.scripts = Some(seed + 1);
+        }
+        if caught.scripts.is_some() && (caught.book.is_some() || seed >= BOOK_SCRIPTS) {
+            break;
+        }
+    }
+    caught
+}

@@ -1,0 +1,44 @@
+//! The paper's figures as it states them. A request that changes one edits it
+//! here and in `layout`.
+
+use reference::layout::*;
+
+#[test]
+fn the_image() {
+    assert_eq!(
+        (IMAGE_WORDS, NODES, NODE_WORDS, REGISTERS),
+        (1_216, 24, 34, 32)
+    );
+    assert_eq!((MARK, ATTESTATION, SPARE, SECRET), (0, 1, 2, 4));
+    assert_eq!((register(0), register(31)), (16, 388));
+    assert_eq!((node(0), node(1), node(23)), (400, 434, 1_182));
+    assert_eq!(MAX_STEPS, 23);
+}
+
+#[test]
+fn a_node() {
+    assert_eq!((TAG, HANDLE, HANDLE_WORDS, FLAGS), (1, 2, 5, 7));
+    assert_eq!((NODE_CURRENT, NODE_CUMULATIVE), (8, 20));
+    assert_eq!((TYPE, LOCALITY), (32, 33));
+}
+
+#[test]
+fn the_numbers_of_stores() {
+    assert_eq!((STASH_STORES, DISABLING_STORES), (53, 15));
+    assert_eq!((UPDATE_STORES, COLD_STORES), (62, 1_217));
+}
+
+#[test]
+fn the_commands() {
+    let rows = COMMANDS.map(|row| (row.code, row.request_bytes, row.answer_bytes));
+    assert_eq!(
+        rows,
+        [
+            (0x4D45_4153, 60, 12),
+            (0x4453_424C, 4, 8),
+            (0x4944_4549, 4, 104),
+            (0x5349_4756, 196, 8),
+        ]
+    );
+    assert_eq!(rows.iter().map(|row| row.2).max(), Some(ANSWER_MAX));
+}
