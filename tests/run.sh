@@ -116,4 +116,64 @@ expect 'a build that fails: status 2' 'status 2' \
     "$(outcome env PATH="$work/bin" "$work/tree/run" sha384sum <abc)"
 expect 'a build that fails: where the log is' 1 "$(grep -c 'target/build.log says why' stderr)"
 
+# ---- the demo
+
+# x extended by d, by the machine's own sha384sum.
+extended() { # X D
+    # shellcheck disable=SC2059
+    printf "$(printf '%s' "$1$2" | sed 's/../\\x&/g')" | sha384sum | cut -d ' ' -f 1
+}
+of() { printf '%s' "$1" | sha384sum | cut -d ' ' -f 1; }
+zero=$(printf '%096d' 0)
+root_digest=$(extended "$(extended "$zero" "$(of 'runtime 1')")" "$(of 'runtime 2')")
+
+# The demo's tree of that many programs.
+tree() { # COUNT
+    local names=('driving hours' 'resting hours' clock 'night shift') k
+    printf '     runtime 1, then 2  %.12s..\n' "$root_digest"
+    for ((k = 0; k < $1; k++)); do
+        printf '     %*s└─ %s  %.12s..\n' $((3 * k)) '' "${names[k]}" "$(of "${names[k]}")"
+    done
+}
+
+expect 'the demo: three trees' "$(tree 3 && tree 3 && tree 4)"$'\nstatus 0' \
+    "$(outcome "$root/demo" | grep -E '^     |^status')"
+expect 'the demo: four cuts' \
+    "$(printf '%s\n' \
+        'Cut after 0 of 53 stores. The restart gives outcome 1' \
+        'The new program is not in the list' \
+        'Cut after 1 of 53 stores. The restart gives outcome 3' \
+        'The measurement was torn' \
+        'Cut after 52 of 53 stores. The restart gives outcome 3' \
+        'The measurement was torn' \
+        'Cut after 53 of 53 stores. The restart gives outcome 1' \
+        'The new program is in the list')" \
+    "$("$root/demo" 2>/dev/null |
+        grep -oE 'Cut after [0-9]+ of 53 stores. The restart gives outcome [0-9]|The new program is( not)? in the list|The measurement was torn')"
+
+expect 'card 10 in words' \
+    'The result is 0 (accepted). The answer of 8 bytes has the checksum 0xFFFFFEDB and FIPS status 0 (always 0).' \
+    "$("$root/demo" request 2>/dev/null | tail -n 1)"
+printf 'LBSD\0\0\0\0' >bad_checksum
+expect 'a refusal in words' \
+    'The result is 1111705675 (0x4243484B, refused: bad checksum, "BCHK"): nothing was stored, and there is no answer.' \
+    "$("$root/demo" request bad_checksum 2>/dev/null | tail -n 1)"
+{ printf 'SAEM\xda\xfe\xff\xff' && head -c 56 /dev/zero; } >stash
+expect 'a dpe result in words' 'Its dpe result is 0 (the measurement was taken).' \
+    "$("$root/demo" request stash 2>/dev/null | tail -n 1)"
+printf AB >short
+expect 'a short request in words' \
+    'The result is 3 (0x3, refused: unknown command code): nothing was stored, and there is no answer.' \
+    "$("$root/demo" request short 2>/dev/null | tail -n 1)"
+complains 'a request in a folder' 1 'cannot be read' "$root/demo" request .
+complains 'a request that is not there' 1 'cannot be read' "$root/demo" request no_such_file
+complains 'a word that the demo has not' 2 "there is no 'nope'" "$root/demo" nope
+complains 'an option that the demo has not' 2 "no option '--nope'" "$root/demo" --nope
+complains 'too many words for the demo' 2 'too many arguments' "$root/demo" request abc abc
+complains 'no folder for temporary files in the demo' 2 '/no/such/folder' \
+    env TMPDIR=/no/such/folder "$root/demo" request abc
+expect 'the version of ./demo' "waggleloft $version" "$("$root/demo" --version)"
+ln -s "$root/demo" "$work/linked_demo"
+expect 'the demo through a symbolic link' 'status 0' "$(outcome "$work/linked_demo" | tail -n 1)"
+
 conclude
