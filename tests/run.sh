@@ -99,9 +99,10 @@ expect 'the newest entry of CHANGES.md' "## $version" "$(grep -m 1 '^## ' "$root
 
 # A tree in which nothing is built.
 mkdir -p tree/crates/sha384sum/src bin
-cp "$root/run" "$root/VERSION" "$root/crates.txt" tree/
+cp "$root/run" "$root/VERSION" tree/
+printf 'low: # rests on nothing\nhigh: low io\nother: low\nsha384sum: high low libc\n' >tree/crates.txt
 touch tree/crates/sha384sum/src/main.rt
-for tool in bash basename cat dirname find mkdir mktemp readlink rm tee touch tr; do
+for tool in awk bash basename cat dirname find mkdir mktemp readlink rm tee touch tr; do
     ln -s "$(command -v "$tool")" "bin/$tool"
 done
 complains 'no toolchain' 2 'rt is not found' env PATH="$work/bin" "$work/tree/run" sha384sum
@@ -111,6 +112,12 @@ chmod +x bin/rt
 complains 'a tree that cannot be written' 2 'cannot be written' \
     env PATH="$work/bin" "$work/tree/run" sha384sum
 rm tree/target
+printf '#!/bin/sh\nmkdir -p target/bin\nprintf "#!/bin/sh\\ncat\\n" >target/bin/sha384sum\nchmod +x target/bin/sha384sum\n' >bin/rt
+expect 'a first run builds, and says so' 'abcstatus 0' \
+    "$(outcome env PATH="$work/bin:$PATH" "$work/tree/run" sha384sum <abc)"
+expect 'a first run names the crates and the log' 1 \
+    "$(grep -c 'building and proving sha384sum: 3 crates, .* log: target/build.log' stderr)"
+rm -r tree/target
 printf '#!/bin/sh\necho broken\nexit 1\n' >bin/rt
 expect 'a build that fails: status 2' 'status 2' \
     "$(outcome env PATH="$work/bin" "$work/tree/run" sha384sum <abc)"
