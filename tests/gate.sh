@@ -78,7 +78,7 @@ expect 'a plain step that fails counts once' '0 1' "$(counted plain 3 '')"
 # Prints the last line of the check of a picture, and its exit status.
 pictured() { # FILE
     local status=0
-    docs/picture --check "$1" >"$work/log" 2>&1 || status=$?
+    tests/picture.sh --check "$1" >"$work/log" 2>&1 || status=$?
     echo "$(tail -n 1 "$work/log"), status $status"
 }
 
@@ -87,5 +87,14 @@ sed 's/>1 to 52</>1 to 51</' docs/answer.svg >"$work/other.svg"
 expect 'another picture is refused' '0 passed, 1 failed, status 1' "$(pictured "$work/other.svg")"
 expect 'a picture that is not there is refused' '0 passed, 1 failed, status 1' \
     "$(pictured "$work/none.svg")"
+
+complaint() { # WORDS..
+    local status=0
+    tests/picture.sh "$@" >"$work/out" 2>"$work/log" || status=$?
+    echo "$(wc -l <"$work/out") $(wc -l <"$work/log") status $status"
+}
+expect 'the picture: an unknown word' '0 1 status 2' "$(complaint --chekc)"
+expect 'the picture: too many words' '0 1 status 2' "$(complaint --check a b)"
+expect 'the picture: a file that cannot be written' '0 1 status 1' "$(complaint --write "$work/no/file")"
 
 conclude

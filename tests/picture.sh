@@ -8,9 +8,10 @@ set -euo pipefail
 root=$(cd "$(dirname "$(readlink -f "${BASH_SOURCE[0]}")")/.." && pwd)
 
 usage() {
-    echo "usage: docs/picture                    prints the picture"
-    echo "       docs/picture --write [FILE]     writes it to FILE (docs/answer.svg if left out)"
-    echo "       docs/picture --check [FILE]     exit status 1 if FILE has another"
+    echo "usage: tests/picture.sh --check [FILE] | --write [FILE] | --help"
+    echo "  --check   compares FILE (docs/answer.svg if left out) with what the engine gives; the last"
+    echo "            line is 'N passed, M failed', the status 1 if they differ"
+    echo "  --write   writes the picture to FILE"
     echo "Builds and proves the program driver first if that is needed."
 }
 
@@ -148,28 +149,28 @@ make() {
     done | draw
 }
 
-[ $# -le 2 ] || fail 2 "too many arguments (docs/picture --help)"
+[ $# -le 2 ] || fail 2 "too many arguments (tests/picture.sh --help)"
 picture=${2:-$root/docs/answer.svg}
 case ${1:-} in
+'')
+    usage >&2
+    exit 2
+    ;;
 -h | --help)
     usage
     exit 0
     ;;
-'' | --write | --check) ;;
-*) fail 2 "there is no option '$1' (docs/picture --help)" ;;
+--write | --check) ;;
+*) fail 2 "there is no '$1' (tests/picture.sh --help)" ;;
 esac
 "$root/run" --build driver || exit 2
 driver=$root/target/bin/driver
 made=$(make) || exit 1
-case ${1:-} in
-'') echo "$made" ;;
---write) echo "$made" >"$picture" ;;
---check)
-    if diff <(echo "$made") "$picture"; then
-        echo "1 passed, 0 failed"
-    else
-        echo "0 passed, 1 failed"
-        exit 1
-    fi
-    ;;
-esac
+if [ "$1" = --write ]; then
+    { echo "$made" >"$picture"; } 2>/dev/null || fail 1 "$picture cannot be written"
+elif diff <(echo "$made") "$picture"; then
+    echo "1 passed, 0 failed"
+else
+    echo "0 passed, 1 failed"
+    exit 1
+fi
