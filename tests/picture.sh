@@ -120,7 +120,7 @@ draw() {
             printf "<text x=\"%d\" y=\"%d\" text-anchor=\"%s\">%s</text>\n", x, y, anchor, words
         }
         function cell(from, to) { return from == to ? from : from " to " to }
-        /^kind/ { row++; sub(/^kind /, ""); y = top + step * (row - 1); x = left; n = 0; text(12, y + 19, $0, "start"); next }
+        /^kind/ { row++; sub(/^kind /, ""); y = top + step * (row - 1); x = left; text(12, y + 19, $0, "start"); next }
         {
             width = $2 == $3 ? narrow : wide - 2 * narrow
             printf "<rect x=\"%d\" y=\"%d\" width=\"%d\" height=\"28\" fill=\"%s\" stroke=\"#ffffff\"/>\n", x, y, width, colour[$1]
