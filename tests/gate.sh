@@ -73,4 +73,28 @@ expect 'cargo without a test fails' '0 1' "$(counted cargo 0 'test result: ok. 0
 expect 'a plain step that passes counts nothing' '0 0' "$(counted plain 0 '9 passed, 9 failed\n')"
 expect 'a plain step that fails counts once' '0 1' "$(counted plain 3 '')"
 
+# ---- the picture of docs/ANSWER.md
+
+# Prints the last line of the check of a picture, and its exit status.
+pictured() { # FILE
+    local status=0
+    tests/picture.sh --check "$1" >"$work/log" 2>&1 || status=$?
+    echo "$(tail -n 1 "$work/log"), status $status"
+}
+
+expect 'the picture is what the engine gives' '1 passed, 0 failed, status 0' "$(pictured docs/answer.svg)"
+sed 's/>1 to 52</>1 to 51</' docs/answer.svg >"$work/other.svg"
+expect 'another picture is refused' '0 passed, 1 failed, status 1' "$(pictured "$work/other.svg")"
+expect 'a picture that is not there is refused' '0 passed, 1 failed, status 1' \
+    "$(pictured "$work/none.svg")"
+
+complaint() { # WORDS..
+    local status=0
+    tests/picture.sh "$@" >"$work/out" 2>"$work/log" || status=$?
+    echo "$(wc -l <"$work/out") $(wc -l <"$work/log") status $status"
+}
+expect 'the picture: an unknown word' '0 1 status 2' "$(complaint --chekc)"
+expect 'the picture: too many words' '0 1 status 2' "$(complaint --check a b)"
+expect 'the picture: a file that cannot be written' '0 1 status 1' "$(complaint --write "$work/no/file")"
+
 conclude

@@ -8,14 +8,24 @@ root=$(cd "$(dirname "${BASH_SOURCE[0]}")/.." && pwd)
 work=$(mktemp -d)
 trap 'rm -rf "$work"' EXIT
 cd "$work"
+"$root/run" --build sha384sum mailbox driver
 
-# Prints what ./run writes to standard output, and its exit status.
-result() { # FILE WORDS..
-    local file=$1 status=0
-    shift
-    "$root/run" "$@" <"$file" 2>"$work/stderr" || status=$?
+# Prints what a command writes to standard output, and its exit status; its error stream goes to the
+# file stderr.
+outcome() { # WORDS..
+    local status=0
+    "$@" 2>"$work/stderr" || status=$?
     echo "status $status"
 }
+
+# The same of ./run on a file.
+result() { # FILE WORDS..
+    local file=$1
+    shift
+    outcome "$root/run" "$@" <"$file"
+}
+
+# ---- digests
 
 printf abc >abc
 head -c 65535 /dev/zero >longest
@@ -25,16 +35,152 @@ expect 'a short file' "$(sha384sum <abc)"$'\nstatus 0' "$(result abc sha384sum)"
 expect 'the longest file' "$(sha384sum <longest)"$'\nstatus 0' "$(result longest sha384sum)"
 expect 'no digest: status 1' 'status 1' "$(result too_long sha384sum)"
 expect 'the message says why' 1 "$(grep -cE '65,?535' stderr)"
+
+# ---- inputs that cannot be read to their end
+
+# Three bytes, a pause, three more.
+slow() { printf abc && sleep 0.5 && printf def; }
+
+# ./run on that pipe, which does not block: the flag is the pipe's, so it stays when dd is gone.
+impatient() { # NAME
+    slow | {
+        dd iflag=nonblock count=0 status=none
+        outcome "$root/run" "$1"
+    }
+}
+
+expect 'a slow pipe is read to its end' "$(printf abcdef | sha384sum)"$'\nstatus 0' \
+    "$(slow | outcome "$root/run" sha384sum)"
+for name in sha384sum mailbox driver; do
+    said="$name: the input cannot be read: "
+    expect "$name on a folder: no output, status 1" 'status 1' "$(result . $name)"
+    expect "$name on a folder: the message" 1 "$(grep -c "^$said" stderr)"
+    expect "$name on a closed input: no output, status 1" 'status 1' \
+        "$(outcome "$root/run" $name <&-)"
+    expect "$name on a closed input: the message" 1 "$(grep -c "^$said" stderr)"
+    expect "$name on a pipe that does not block: no output, status 1" 'status 1' "$(impatient $name)"
+    expect "$name on a pipe that does not block: the message" 1 "$(grep -c "^$said" stderr)"
+done
+
+# Standard output takes nothing.
+full() { "$root/run" sha384sum <abc >/dev/full; }
+expect 'a digest that cannot be written: status 1' 'status 1' "$(outcome full)"
+
+# ---- what a stranger types
+
+# Checks the exit status, and that the error stream is one line that has the words.
+complains() { # NAME STATUS WORDS COMMAND..
+    local name=$1 status=$2 words=$3
+    shift 3
+    expect "$name: status $status" "status $status" "$(outcome "$@" <abc)"
+    expect "$name: one line that says '$words'" '1 1' \
+        "$(wc -l <stderr) $(grep -cF -- "$words" stderr || true)"
+}
+
+complains 'an unknown name' 2 "no program 'nope'" "$root/run" nope
+complains 'a path is no name' 2 'no program' "$root/run" ../bin/sha384sum
+complains 'an argument too many' 2 'too many arguments' "$root/run" sha384sum abc
+complains 'an unknown option' 2 "no option '--nope'" "$root/run" --nope
+complains 'no name to build' 2 '--build needs' "$root/run" --build
+complains 'no folder for temporary files' 2 '/no/such/folder' \
+    env TMPDIR=/no/such/folder "$root/run" sha384sum
+expect 'no name: status 2' 'status 2' "$(result abc)"
+expect 'no name: the usage' 1 "$(grep -c '^usage: ' stderr)"
+expect 'help is on standard output: status 0' '1 status 0' \
+    "$(result abc --help | awk '/^usage: /{n++} END{print n, $0}')"
+ln -s "$root/run" "$work/linked"
+expect 'through a symbolic link' "$(sha384sum <abc)"$'\nstatus 0' \
+    "$(outcome "$work/linked" sha384sum <abc)"
+
+# The version has one place; the list of changes opens with it.
+version=$(cat "$root/VERSION")
+expect 'the version of ./run' "waggleloft $version" "$("$root/run" --version)"
+expect 'the newest entry of CHANGES.md' "## $version" "$(grep -m 1 '^## ' "$root/CHANGES.md")"
+
+# A tree in which nothing is built.
+mkdir -p tree/crates/sha384sum/src bin
+cp "$root/run" "$root/VERSION" tree/
+printf 'low: # rests on nothing\nhigh: low io\nother: low\nsha384sum: high low libc\n' >tree/crates.txt
+touch tree/crates/sha384sum/src/main.rt
+for tool in awk bash basename cat dirname find mkdir mktemp readlink rm tee touch tr; do
+    ln -s "$(command -v "$tool")" "bin/$tool"
+done
+complains 'no toolchain' 2 'rt is not found' env PATH="$work/bin" "$work/tree/run" sha384sum
+touch tree/target
+printf '#!/bin/sh\nexit 0\n' >bin/rt
+chmod +x bin/rt
+complains 'a tree that cannot be written' 2 'cannot be written' \
+    env PATH="$work/bin" "$work/tree/run" sha384sum
+rm tree/target
+printf '#!/bin/sh\nmkdir -p target/bin\nprintf "#!/bin/sh\\ncat\\n" >target/bin/sha384sum\nchmod +x target/bin/sha384sum\n' >bin/rt
+expect 'a first run builds, and says so' 'abcstatus 0' \
+    "$(outcome env PATH="$work/bin:$PATH" "$work/tree/run" sha384sum <abc)"
+expect 'a first run names the crates and the log' 1 \
+    "$(grep -c 'building and proving sha384sum: 3 crates, .* log: target/build.log' stderr)"
+rm -r tree/target
+printf '#!/bin/sh\necho broken\nexit 1\n' >bin/rt
+expect 'a build that fails: status 2' 'status 2' \
+    "$(outcome env PATH="$work/bin" "$work/tree/run" sha384sum <abc)"
+expect 'a build that fails: where the log is' 1 "$(grep -c 'target/build.log says why' stderr)"
+
+# ---- the demo
+
+# x extended by d, by the machine's own sha384sum.
+extended() { # X D
+    # shellcheck disable=SC2059
+    printf "$(printf '%s' "$1$2" | sed 's/../\\x&/g')" | sha384sum | cut -d ' ' -f 1
+}
+of() { printf '%s' "$1" | sha384sum | cut -d ' ' -f 1; }
+zero=$(printf '%096d' 0)
+root_digest=$(extended "$(extended "$zero" "$(of 'runtime 1')")" "$(of 'runtime 2')")
+
+# The demo's tree of that many programs.
+tree() { # COUNT
+    local names=('driving hours' 'resting hours' clock 'night shift') k
+    printf '     runtime 1, then 2  %.12s..\n' "$root_digest"
+    for ((k = 0; k < $1; k++)); do
+        printf '     %*s└─ %s  %.12s..\n' $((3 * k)) '' "${names[k]}" "$(of "${names[k]}")"
+    done
+}
+
+expect 'the demo: three trees' "$(tree 3 && tree 3 && tree 4)"$'\nstatus 0' \
+    "$(outcome "$root/demo" | grep -E '^     |^status')"
+expect 'the demo: four cuts' \
+    "$(printf '%s\n' \
+        'Cut after 0 of 53 stores. The restart gives outcome 1' \
+        'The new program is not in the list' \
+        'Cut after 1 of 53 stores. The restart gives outcome 3' \
+        'The measurement was torn' \
+        'Cut after 52 of 53 stores. The restart gives outcome 3' \
+        'The measurement was torn' \
+        'Cut after 53 of 53 stores. The restart gives outcome 1' \
+        'The new program is in the list')" \
+    "$("$root/demo" 2>/dev/null |
+        grep -oE 'Cut after [0-9]+ of 53 stores. The restart gives outcome [0-9]|The new program is( not)? in the list|The measurement was torn')"
+
 expect 'card 10 in words' \
-    'The request was accepted (result 0). Its answer of 8 bytes has the checksum 0xFFFFFEDB and FIPS status 0.' \
-    "$("$root/demo" 2>/dev/null | tail -n 1)"
+    'The result is 0 (accepted). The answer of 8 bytes has the checksum 0xFFFFFEDB and FIPS status 0 (always 0).' \
+    "$("$root/demo" request 2>/dev/null | tail -n 1)"
 printf 'LBSD\0\0\0\0' >bad_checksum
 expect 'a refusal in words' \
-    'The request was refused with number 1111705675 (0x4243484B): nothing was stored, and there is no answer.' \
-    "$("$root/demo" bad_checksum 2>/dev/null | tail -n 1)"
-expect 'no name: status 2' 'status 2' "$(result abc)"
-expect 'the usage line' 1 "$(grep -c '^usage: ' stderr)"
-expect 'an unknown name: status 2' 'status 2' "$(result abc no_such_program)"
-expect 'a path is no name: status 2' 'status 2' "$(result abc ../bin/sha384sum)"
+    'The result is 1111705675 (0x4243484B, refused: bad checksum, "BCHK"): nothing was stored, and there is no answer.' \
+    "$("$root/demo" request bad_checksum 2>/dev/null | tail -n 1)"
+{ printf 'SAEM\xda\xfe\xff\xff' && head -c 56 /dev/zero; } >stash
+expect 'a dpe result in words' 'Its dpe result is 0 (the measurement was taken).' \
+    "$("$root/demo" request stash 2>/dev/null | tail -n 1)"
+printf AB >short
+expect 'a short request in words' \
+    'The result is 3 (0x3, refused: unknown command code): nothing was stored, and there is no answer.' \
+    "$("$root/demo" request short 2>/dev/null | tail -n 1)"
+complains 'a request in a folder' 1 'cannot be read' "$root/demo" request .
+complains 'a request that is not there' 1 'cannot be read' "$root/demo" request no_such_file
+complains 'a word that the demo has not' 2 "there is no 'nope'" "$root/demo" nope
+complains 'an option that the demo has not' 2 "no option '--nope'" "$root/demo" --nope
+complains 'too many words for the demo' 2 'too many arguments' "$root/demo" request abc abc
+complains 'no folder for temporary files in the demo' 2 '/no/such/folder' \
+    env TMPDIR=/no/such/folder "$root/demo" request abc
+expect 'the version of ./demo' "waggleloft $version" "$("$root/demo" --version)"
+ln -s "$root/demo" "$work/linked_demo"
+expect 'the demo through a symbolic link' 'status 0' "$(outcome "$work/linked_demo" | tail -n 1)"
 
 conclude

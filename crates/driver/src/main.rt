@@ -3,7 +3,8 @@
 //
 // An operation is a letter and its arguments; numbers are little endian, and a byte string stands
 // after its length (u16). The run ends at the end of the input, at an unknown letter, at an operation
-// that the input cuts short and at an image of more than 4,096 words.
+// that the input cuts short and at an image of more than 4,096 words. The input is read first: one
+// that cannot be read gets a message on standard error, and nothing is run.
 mod calls;
 mod input;
 mod output;
@@ -19,7 +20,9 @@ use crate::state::MEMORY_WORDS;
 use crate::state::State;
 use crate::state::start;
 use crate::state::stopped;
+use libc::STDERR_FILENO;
 use libc::STDIN_FILENO;
+use reading::read_whole;
 
 // One operation.
 fn operation(input: &[u8], memory: &mut [u32], state: State) -> State
@@ -67,6 +70,14 @@ fn room() -> [u8; INPUT_BYTES]
 
 fn main() {
     let mut space = room();
-    let n = io::read_full(STDIN_FILENO, &mut space);
+    let read = read_whole(STDIN_FILENO, &mut space);
+    if !read.whole {
+        io::write_all(
+            STDERR_FILENO,
+            b"driver: the input cannot be read: nothing was run\n",
+        );
+        return;
+    }
+    let n = read.count;
     run(&space[..n]);
 }

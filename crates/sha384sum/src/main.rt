@@ -1,11 +1,13 @@
-// Reads standard input and prints its SHA-384 digest as `sha384sum` prints it. An input longer than
-// 65,535 bytes has no digest here: it gets a message on standard error.
+// Reads standard input and prints its SHA-384 digest as `sha384sum` prints it. An input that cannot be
+// read to its end, or is longer than 65,535 bytes, has no digest here: it gets a message on standard
+// error and nothing on standard output.
 ghost use mathlib.Core.Path.{_≡_};
 ghost use Prim.Native.Nat.{_%_};
 ghost use Rattle.sha384sum.specs.Hex.{digitOf, hexOf};
 use libc::STDERR_FILENO;
 use libc::STDIN_FILENO;
 use libc::STDOUT_FILENO;
+use reading::read_whole;
 
 // The digit of a number's low four bits.
 fn digit(n: u8) -> u8
@@ -29,20 +31,27 @@ fn hex(bytes: [u8; 48]) -> [u8; 96]
     out
 }
 
+fn complain(why: &[u8]) {
+    io::write_all(STDERR_FILENO, why);
+}
+
 fn main() {
     // One byte more than the longest message.
     let mut space = io::large_buffer();
-    let n = io::read_full(STDIN_FILENO, &mut space);
+    let read = read_whole(STDIN_FILENO, &mut space);
+    if !read.whole {
+        complain(b"sha384sum: the input cannot be read: no digest\n");
+        return;
+    }
+    let n = read.count;
     let answer = sha384::digest::digest(&space[..n]);
-    if answer.number == 0 {
-        let bytes = answer.bytes;
-        let text = hex(bytes);
-        io::write_all(STDOUT_FILENO, &text);
-        io::write_all(STDOUT_FILENO, b"  -\n");
-    } else {
-        io::write_all(
-            STDERR_FILENO,
-            b"sha384sum: the input is longer than 65535 bytes: no digest\n",
-        );
+    if answer.number != 0 {
+        complain(b"sha384sum: the input is longer than 65535 bytes: no digest\n");
+        return;
+    }
+    let bytes = answer.bytes;
+    let text = hex(bytes);
+    if !(io::write_all(STDOUT_FILENO, &text) && io::write_all(STDOUT_FILENO, b"  -\n")) {
+        complain(b"sha384sum: the digest cannot be written\n");
     }
 }

@@ -40,7 +40,7 @@ fn stash_arguments(byte: u8) -> Vec<u8> {
     arguments
 }
 
-fn kinds() -> [Kind; 4] {
+fn kinds() -> [Kind; 5] {
     [
         Kind {
             name: "a new measurement (stash)",
@@ -84,6 +84,16 @@ fn kinds() -> [Kind; 4] {
             shown: |with, _| !with.on && with.secret_zero,
             counted: "attestation was off and stays off",
             lost: "attestation was off and stays off",
+        },
+        Kind {
+            name: "a cold boot",
+            before: |s| s,
+            skip: |_| (),
+            open: |s| s.cold_boot(&[0x77; 48], &[0x88; 48]),
+            left: |r| r.boot().1,
+            shown: |with, without| with.nodes == 1 && with.root != without.root,
+            counted: "the old list is erased; a new one has begun, with one entry",
+            lost: "the old list stands",
         },
     ]
 }
@@ -147,7 +157,7 @@ fn run(kind: &Kind, stores: Option<u32>) -> (u32, Option<Left>) {
 fn sentence(kind: &Kind, left: &Left, untouched: &Left, stores: u32, number: u32) -> &'static str {
     if 0 < stores && stores < number {
         assert!(!left.on && left.secret_zero && left.outcome == 3);
-        return "attestation is off and the secret is erased, for good: no list is shown as whole";
+        return "attestation is off and the secret is erased: no list is shown as whole, until a cold boot starts a new one";
     }
     let shown = (kind.shown)(left, untouched);
     if stores == number {

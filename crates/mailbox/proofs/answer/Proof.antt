@@ -1,22 +1,10 @@
--- The counts of bytes read and written are within their arrays.
+-- The bytes that are written lie within the response's array.
 use mathlib.Core.Path.{sym}
 use lib.Seq.{length-take-le}
 use Rattle.respond.proofs.Output.{response-within}
 use borrow.Author.Needs.{needs}
-use Rattle.mailbox.proofs.main.Statement.{statement}
-use Rattle.mailbox.proofs.main.Tie as tie
-
-slice-aggregate-read-full : tie.Need-slice-aggregate-read-full
-slice-aggregate-read-full c = search needs
-
-read-full-requires : tie.Need-read-full-requires
-read-full-requires c κs = search needs
-
-array-share-prefix-input : tie.Need-array-share-prefix-input
-array-share-prefix-input c = search needs
-
-slice-aggregate-respond : tie.Need-slice-aggregate-respond
-slice-aggregate-respond c = search needs
+use Rattle.mailbox.proofs.answer.Statement.{statement}
+use Rattle.mailbox.proofs.answer.Tie as tie
 
 respond-requires : tie.Need-respond-requires
 respond-requires c κs = search needs
@@ -31,19 +19,27 @@ slice-aggregate-write-all c = let r = c .before .before .respond .result in
 write-all-requires : tie.Need-write-all-requires
 write-all-requires c κs = search needs
 
+slice-aggregate-complain : tie.Need-slice-aggregate-complain
+slice-aggregate-complain c = search needs
+
+complain-requires : tie.Need-complain-requires
+complain-requires c κs = search needs
+
 returns : tie.Need-returns
 returns c = search needs
 
-pub main-spec : {M : Type 1} → statement M
-main-spec =
+returns-2 : tie.Need-returns-2
+returns-2 c = search needs
+
+pub answer-spec : {M : Type 1} → statement M
+answer-spec =
     tie.close
     (tie.spec
-    slice-aggregate-read-full
-    read-full-requires
-    array-share-prefix-input
-    slice-aggregate-respond
     respond-requires
     array-share-prefix-bytes
     slice-aggregate-write-all
     write-all-requires
-    returns)
+    slice-aggregate-complain
+    complain-requires
+    returns
+    returns-2)
