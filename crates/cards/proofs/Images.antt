@@ -1,131 +1,158 @@
--- The images of a cold boot and stashes: how many nodes they use, and that a request is served on them. Assumes nothing.
+-- The images of a cold boot and stashes: the root's word 0, how many nodes they use, and that a request is served on them. Assumes nothing.
 use mathlib.Core.Path.{_≡_, refl, sym, ap, _∙_, subst}
 use mathlib.Core.Logic.{_≢_}
 use Prim.Native.Nat.{ℕ, zero, suc, _+_, _-_, _≤_, _<_}
 use native.Mathlib.Nat.{add-zero}
 use native.Mathlib.Omega.{arith}
-use native.Mathlib.Decide.{ℕ-discrete}
-use mathlib.Core.Bool.{true, false, not, false≢true}
+use native.Mathlib.Decide.{ℕ-discrete, decLt}
+use mathlib.Core.Bool.{Bool, true, false, not, true≢false}
 use mathlib.Core.List.{List, [], _∷_, foldl}
 use mathlib.Core.Option.{Option, none, some}
 use lib.ListN.{length, getD, set, replicate, length-replicate, length-set}
 use lib.Seq.{getD-set-same, getD-set-other}
 use Rattle.layout.specs.Sizes.{nodeCount}
 use Rattle.layout.specs.Words.{zeros}
-use Rattle.tree.specs.Nodes.{used, parent}
-use Rattle.tree.specs.Record.{Node, isFree, isHolder}
+use Rattle.layout.proofs.Blocks.{getD-kept}
+use Rattle.layout.proofs.Bounded.{count-first, first-there, first-lowest, first-le}
+use Rattle.tree.specs.Tree.{Place, Tree, defaultWords, nodeWith, lowestFree, wellFormed}
+use Rattle.tree.specs.Nodes.{word, treeIn}
+use Rattle.tree.specs.Record.{Node, retiredHandle, withHandle, placeOf, placeRow, treeOf}
+use Rattle.tree.proofs.Rows.{row-first}
+use Rattle.tree.proofs.WellFormed.{free-there}
 use Rattle.opening.specs.Values.{measured, childNode, rootNode}
-use Rattle.opening.specs.Tasks.{stash, coldBoot}
-use Rattle.history.specs.Ledger.{State, find, retired, next, blank, stateOf}
-use Rattle.history.proofs.Blocks.{getD-kept}
-use Rattle.history.proofs.Encoded.{Shape, parent-at, encodes, length-image, mark-read, attestation-read, used-test}
-use Rattle.history.proofs.Good.{Good, good-shape, good-cold, good-stash, holder-slot, formed-good}
+use Rattle.opening.specs.Tasks.{BootInputs, bootOf, Measurement, stash, coldBoot}
+use Rattle.opening.specs.Openings.{bootNumber, openColdBoot, coldBooted}
+use Rattle.history.specs.Ledger.{Chain, State, treeAt, changed, nextChain, next, blank, stateOf}
+use Rattle.history.proofs.Encoded.{Shape, encodes, tree-read, length-image, mark-read, attestation-read}
+use Rattle.history.proofs.Good.{Good, good-cold, good-stash, holder-node, formed-good}
+use Rattle.history.proofs.Demand.{cold-image}
 use Rattle.cards.specs.Cards.{Serving, usedNodes}
-use Rattle.cards.specs.Images.{firstBoot, historyOf, imageWith, ownParent, looped, ownParentImage}
-use Rattle.cards.proofs.Counting.{count-first}
+use Rattle.cards.specs.Images.{zeroMeasurement, firstBoot, historyOf, imageWith, ownParent, looped, ownParentImage}
+
+-- ---- after a cold boot
+
+pub root-word : (before : List ℕ) (x : BootInputs) → bootNumber (openColdBoot before x .status) ≡ 0 → getD (coldBooted before x) 400 0 ≡ 0x00FF0001
+unfolding nextChain word
+root-word before x e =
+    ap (λ (l : List ℕ). getD l 400 0) (cold-image before x e)
+    ∙ encodes 1 1 s (good-cold (blank .chain) x .shape) 0 0 (omega (arith, good-cold (blank .chain) x .shape .nodes)) (omega arith)
+    ∙ row-first (rootNode (measured (x .digest)))
+  where
+    s : State
+    s = next blank (coldBoot x)
+
+-- ---- used places
 
 -- the places below k are used, and no other
-record Filled (ns : List (Option Node)) (k : ℕ) : Type 0 where
-  pub low : (i : ℕ) → i < k → isFree (getD ns i none) ≡ false
-  pub high : (i : ℕ) → k ≤ i → isFree (getD ns i none) ≡ true
+record Filled (t : Tree) (k : ℕ) : Type 0 where
+  pub low : (i : ℕ) → i < k → t i .used ≡ true
+  pub high : (i : ℕ) → k ≤ i → t i .used ≡ false
 
 -- so that the lowest free one is k
-filled-find : (ns : List (Option Node)) (k : ℕ) → k < length ns → Filled ns k → find isFree ns ≡ k
-filled-find [] k l f = absurd (omega arith)
-filled-find (s ∷ ns) zero l f = rw (f .high 0 (omega arith))
-filled-find (s ∷ ns) (suc k) l f =
-    rw (f .low 0 (omega arith))
-    (ap suc (filled-find ns k (omega arith) (record { low = λ i b. f .low (suc i) (omega arith); high = λ i b. f .high (suc i) (omega arith) })))
+filled-find : (t : Tree) (k : ℕ) → k < nodeCount → Filled t k → lowestFree nodeCount t ≡ k
+filled-find t k l f = elim (decLt (lowestFree nodeCount t) k) [
+  | yes b ↦ absurd (true≢false (sym (f .low (lowestFree nodeCount t) b) ∙ free-there nodeCount t (omega arith)))
+  | no b ↦ elim (decLt k (lowestFree nodeCount t)) [
+    | yes c ↦ absurd (true≢false (sym (negated (t k .used) (unfold lowestFree in (first-lowest (λ i. not (t i .used)) nodeCount 0 k (omega arith) c))) ∙ f .high k (omega arith)))
+    | no c ↦ omega arith
+  ]
+]
+  where
+    negated : (b : Bool) → not b ≡ false → b ≡ true
+    negated true h = refl
+    negated false h = sym h
 
-retired-free : (s : Option Node) → isFree (retired s) ≡ isFree s
-retired-free none = refl
-retired-free (some n) = refl
+used-changed : (f : Node → Node) (s : Option Node) → placeOf (changed f s) .used ≡ placeOf s .used
+used-changed f none = refl
+used-changed f (some n) = refl
+
+abbrev isUsed : Option Node → Bool
+isUsed s = placeOf s .used
 
 -- a stash fills one more
-module _ (x : State) (g : Good x) (k : ℕ) (room : k < nodeCount) (f : Filled (x .nodes) k) (ty : ℕ) (d : List ℕ) (svn c : ℕ) where
-  free-is : find isFree (x .nodes) ≡ k
-  free-is = filled-find (x .nodes) k (omega (arith, good-shape x g .nodes)) f
+module _ (x : Chain) (g : Good x) (k : ℕ) (room : k < nodeCount) (f : Filled (treeAt x) k) (m : Measurement) where
+  free-is : lowestFree nodeCount (treeAt x) ≡ k
+  free-is = filled-find (treeAt x) k room f
 
-  stash-good : Good (next x (stash ty d svn c))
-  stash-good = good-stash x ty d svn c g (rw free-is room)
+  stash-good : Good (nextChain x (stash m))
+  stash-good = good-stash x m g (rw free-is room)
 
-  stash-filled : Filled (next x (stash ty d svn c) .nodes) (suc k)
-  unfolding next
+  stash-filled : Filled (treeAt (nextChain x (stash m))) (suc k)
+  unfolding nextChain
   stash-filled =
       record {
         low = λ i l. kept i ∙ (elim (ℕ-discrete i free) [
-          | yes z ↦ ap (λ (j : ℕ). isFree (getD ms j none)) z ∙ ap isFree (getD-set-same ns free new none (omega (arith, free-is, good-shape x g .nodes)))
-          | no z ↦ ap isFree (getD-set-other ns free i new none z) ∙ f .low i (omega (arith, free-is))
+          | yes z ↦ ap (λ (j : ℕ). isUsed (getD ms j none)) z ∙ ap isUsed (getD-set-same ns free new none (omega (arith, free-is, g .shape .nodes)))
+          | no z ↦ ap isUsed (getD-set-other ns free i new none z) ∙ f .low i (omega (arith, free-is))
         ]);
-        high = λ i l. kept i ∙ ap isFree (getD-set-other ns free i new none (λ z. omega (arith, free-is))) ∙ f .high i (omega arith);
+        high = λ i l. kept i ∙ ap isUsed (getD-set-other ns free i new none (λ z. omega (arith, free-is))) ∙ f .high i (omega arith);
       }
     where
       ns : List (Option Node)
       ns = x .nodes
 
       h : ℕ
-      h = find isHolder (x .nodes)
+      h = nodeWith nodeCount (treeAt x) defaultWords
 
       free : ℕ
-      free = find isFree (x .nodes)
+      free = lowestFree nodeCount (treeAt x)
 
       new : Option Node
-      new = some (childNode (find isHolder (x .nodes)) ty d c)
+      new = some (childNode (nodeWith nodeCount (treeAt x) defaultWords) m)
 
       ms : List (Option Node)
-      ms = set (x .nodes) (find isFree (x .nodes)) (some (childNode (find isHolder (x .nodes)) ty d c))
+      ms = set (x .nodes) (lowestFree nodeCount (treeAt x)) (some (childNode (nodeWith nodeCount (treeAt x) defaultWords) m))
 
       -- the holder's place is used
-      apart : find isHolder (x .nodes) ≢ find isFree (x .nodes)
-      apart z = false≢true (ap isFree (sym (holder-slot x g .1)) ∙ f .high h (omega (arith, free-is)))
+      apart : nodeWith nodeCount (treeAt x) defaultWords ≢ lowestFree nodeCount (treeAt x)
+      apart z = true≢false (sym (ap isUsed (holder-node x g .1)) ∙ f .high h (omega (arith, free-is)))
 
       -- and it stays used
-      kept : (i : ℕ) → isFree (getD (set ms h (retired (getD ns h none))) i none) ≡ isFree (getD ms i none)
+      kept : (i : ℕ) → isUsed (getD (set ms h (changed (withHandle retiredHandle) (getD ns h none))) i none) ≡ isUsed (getD ms i none)
       kept i =
-          getD-kept isFree ms h i (retired (getD ns h none)) none
-          (retired-free (getD ns h none) ∙ ap isFree (sym (getD-set-other ns free h new none apart)))
+          getD-kept isUsed ms h i (changed (withHandle retiredHandle) (getD ns h none)) none
+          (used-changed (withHandle retiredHandle) (getD ns h none) ∙ ap isUsed (sym (getD-set-other ns free h new none apart)))
 
 -- n stashes fill n more
 record Used (x : State) (k : ℕ) : Type 0 where
-  pub good : Good x
-  pub filled : Filled (x .nodes) k
+  pub good : Good (x .chain)
+  pub filled : Filled (treeAt (x .chain)) k
 
-stashes : (ty : ℕ) (d : List ℕ) (svn c : ℕ) (n : ℕ) (x : State) (k m : ℕ) → Used x k → k + n ≡ m → m ≤ nodeCount
-    → Used (foldl next x (replicate n (stash ty d svn c))) m
-stashes ty d svn c zero x k m u e l = subst (Used x) (sym (add-zero k) ∙ e) u
-stashes ty d svn c (suc n) x k m u e l =
-    stashes ty d svn c n (next x (stash ty d svn c)) (suc k) m
+stashes : (m : Measurement) (n : ℕ) (x : State) (k j : ℕ) → Used x k → k + n ≡ j → j ≤ nodeCount → Used (foldl next x (replicate n (stash m))) j
+stashes m zero x k j u e l = subst (Used x) (sym (add-zero k) ∙ e) u
+stashes m (suc n) x k j u e l =
+    stashes m n (next x (stash m)) (suc k) j
     (record {
-      good = stash-good x (u .good) k (omega arith) (u .filled) ty d svn c;
-      filled = stash-filled x (u .good) k (omega arith) (u .filled) ty d svn c;
+      good = stash-good (x .chain) (u .good) k (omega arith) (u .filled) m;
+      filled = stash-filled (x .chain) (u .good) k (omega arith) (u .filled) m;
     })
     (omega arith)
     l
 
 -- ---- the images
 
-no-node : (n i : ℕ) → isFree (getD (replicate n none) i none) ≡ true
+no-node : (n i : ℕ) → isUsed (getD (replicate n none) i none) ≡ false
 no-node zero i = refl
 no-node (suc n) zero = refl
 no-node (suc n) (suc i) = no-node n i
 
-cold-filled : (n : ℕ) (r : Node) → 0 < n → Filled (set (replicate n none) 0 (some r)) 1
+cold-filled : (n : ℕ) (r : Node) → 0 < n → Filled (treeOf (set (replicate n none) 0 (some r))) 1
 cold-filled n r l =
     record {
       low = λ i b. (let z : i ≡ 0 = omega arith in
-          ap (λ (j : ℕ). isFree (getD (set (replicate n none) 0 (some r)) j none)) z
-          ∙ ap isFree (getD-set-same (replicate n none) 0 (some r) none (rw (length-replicate {A = Option Node} n none) l)));
-      high = λ i b. ap isFree (getD-set-other (replicate n none) 0 i (some r) none (λ (z : i ≡ 0). omega arith)) ∙ no-node n i;
+          ap (λ (j : ℕ). isUsed (getD (set (replicate n none) 0 (some r)) j none)) z
+          ∙ ap isUsed (getD-set-same (replicate n none) 0 (some r) none (rw (length-replicate {A = Option Node} n none) l)));
+      high = λ i b. ap isUsed (getD-set-other (replicate n none) 0 i (some r) none (λ (z : i ≡ 0). omega arith)) ∙ no-node n i;
     }
 
-cold-used : (d s : List ℕ) → Used (next blank (coldBoot d s)) 1
-unfolding next
-cold-used d s = record { good = good-cold blank d s; filled = cold-filled nodeCount (rootNode (measured d)) (omega arith) }
+cold-used : (x : BootInputs) → Used (next blank (coldBoot x)) 1
+unfolding nextChain
+cold-used x = record { good = good-cold (blank .chain) x; filled = cold-filled nodeCount (rootNode (measured (x .digest))) (omega arith) }
 
 history-used : (k : ℕ) → 0 < k → k ≤ nodeCount → Used (stateOf (historyOf k)) k
 unfolding stateOf
 history-used k z l =
-    stashes 0 (zeros 48) 0 0 (k - 1) (next blank firstBoot) 1 k (cold-used (replicate 48 0x11) (replicate 48 0x22)) (omega arith) l
+    stashes zeroMeasurement (k - 1) (next blank firstBoot) 1 k (cold-used (bootOf (replicate 48 0x11) (replicate 48 0x22))) (omega arith) l
 
 module _ (k : ℕ) (some-node : 0 < k) (few : k ≤ nodeCount) where
   abbrev x : State
@@ -134,47 +161,48 @@ module _ (k : ℕ) (some-node : 0 < k) (few : k ≤ nodeCount) where
   u : Used x k
   u = history-used k some-node few
 
+  tree-is : treeIn (imageWith k) ≡ treeAt (x .chain)
+  unfolding imageWith
+  tree-is = tree-read 1 1 x (u .good .shape)
+
   pub serving : Serving (imageWith k)
   unfolding imageWith
   serving =
       record {
-        size = length-image 1 1 x (good-shape x (u .good));
+        size = length-image 1 1 x (u .good .shape);
         done = mark-read 1 1 x;
         on = attestation-read 1 1 x;
-        formed = formed-good 1 1 x (u .good);
+        formed = ap (wellFormed nodeCount) tree-is ∙ formed-good (x .chain) (u .good);
       }
 
   pub used-count : usedNodes (imageWith k) ≡ k
-  unfolding imageWith
   used-count =
-      count-first (used (imageWith k)) nodeCount k few (λ i l. is i (omega arith) ∙ ap not (u .filled .low i l)) (λ i b l. is i l ∙ ap not (u .filled .high i b))
-    where
-      is : (i : ℕ) → i < nodeCount → used (imageWith k) i ≡ not (isFree (getD (x .nodes) i none))
-      is i l =
-          unfold imageWith in
-          (used-test (imageWith k) (x .nodes) (encodes 1 1 x (good-shape x (u .good))) i (omega (arith, good-shape x (u .good) .nodes)) (getD (x .nodes) i none) refl)
+      count-first (λ i. treeIn (imageWith k) i .used) nodeCount k few
+      (λ i l. ap (λ (t : Tree). t i .used) tree-is ∙ u .filled .low i l)
+      (λ i b l. ap (λ (t : Tree). t i .used) tree-is ∙ u .filled .high i b)
 
 -- ---- a node that is its own parent
 
-two-shape : Shape (stateOf (historyOf 2))
-two-shape = good-shape (stateOf (historyOf 2)) (history-used 2 (omega arith) (omega arith) .good)
+two-shape : Shape (stateOf (historyOf 2) .chain)
+two-shape = history-used 2 (omega arith) (omega arith) .good .shape
 
-looped-shape : Shape looped
+looped-shape : Shape (looped .chain)
 looped-shape =
     record {
       registers = two-shape .registers;
       long = two-shape .long;
       bytes = two-shape .bytes;
-      nodes = length-set (stateOf (historyOf 2) .nodes) 1 (some ownParent) ∙ two-shape .nodes;
+      nodes = length-set (stateOf (historyOf 2) .chain .nodes) 1 (some ownParent) ∙ two-shape .nodes;
     }
 
-slot : getD (looped .nodes) 1 none ≡ some ownParent
-slot = getD-set-same (stateOf (historyOf 2) .nodes) 1 (some ownParent) none (omega (arith, two-shape .nodes))
-
-pub loop-used : used ownParentImage 1 ≡ true
+loop-place : treeIn ownParentImage 1 ≡ placeOf (some ownParent)
 unfolding ownParentImage
-loop-used = used-test ownParentImage (looped .nodes) (encodes 1 1 looped looped-shape) 1 (omega (arith, looped-shape .nodes)) (some ownParent) slot
+loop-place =
+    ap (λ (t : Tree). t 1) (tree-read 1 1 looped looped-shape)
+    ∙ ap placeOf (getD-set-same (stateOf (historyOf 2) .chain .nodes) 1 (some ownParent) none (omega (arith, two-shape .nodes)))
 
-pub loop-parent : parent ownParentImage 1 ≡ 1
-unfolding ownParentImage
-loop-parent = parent-at ownParentImage (looped .nodes) (encodes 1 1 looped looped-shape) 1 (omega (arith, looped-shape .nodes)) ownParent slot
+pub loop-used : treeIn ownParentImage 1 .used ≡ true
+loop-used = ap (λ (p : Place). p .used) loop-place
+
+pub loop-parent : treeIn ownParentImage 1 .parent ≡ 1
+loop-parent = ap (λ (p : Place). p .parent) loop-place

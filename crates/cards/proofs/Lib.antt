@@ -1,5 +1,5 @@
 -- The proof of the cards, and laws of the images that it cites.
-pub mod Counting
 pub mod Serving
 pub mod Images
 pub mod Cards
+pub mod Figures

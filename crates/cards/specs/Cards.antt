@@ -1,35 +1,34 @@
 -- Document 01's bench cards *1 to *9, "shown by proof as one table under a single statement". Assumes nothing.
 use mathlib.Core.Path.{_≡_}
-use mathlib.Core.Logic.{_⊎_}
-use Prim.Native.Nat.{ℕ, _+_, _-_, _<_, _≤_}
+use mathlib.Core.Logic.{_⊎_, _≢_}
+use Prim.Native.Nat.{ℕ, _<_, _≤_}
 use mathlib.Core.Bool.{Bool, true, false}
 use mathlib.Core.List.{List, []}
 use lib.ListN.{length, getD, drop}
 use Rattle.layout.specs.Sizes.{nodeCount, imageWords, markAt, attestationAt}
-use Rattle.layout.specs.Words.{le32, bytes4, zeros}
+use Rattle.layout.specs.Words.{le32, zeros}
 use Rattle.layout.specs.Below.{countBelow}
 use Rattle.message.specs.Checksum.{checksumOf}
-use Rattle.tree.specs.Nodes.{used, parent, wellFormed}
-use Rattle.tree.specs.Record.{nodeRow}
+use Rattle.tree.specs.Tree.{wellFormed}
+use Rattle.tree.specs.Nodes.{treeIn}
 use Rattle.work.specs.Table.{numberOf}
 use Rattle.work.specs.Entries.{leftOf, storeNumber}
 use Rattle.work.specs.declared.Kind.the-variants.{Nothing, Stash}
 use Rattle.work.specs.declared.StashAt.{StashAt}
 use Rattle.work.specs.declared.Work.{Work}
-use Rattle.opening.specs.Values.{rootNode}
-use Rattle.opening.specs.Tasks.{Request, answerOf}
-use Rattle.opening.specs.Openings.{statusNumber, bootNumber, openRequest, openColdBoot, openUpdateBoot}
+use Rattle.opening.specs.Tasks.{Request, BootInputs}
+use Rattle.opening.specs.Openings.{statusNumber, bootNumber, openRequest, openColdBoot, openUpdateBoot, coldBooted}
 use Rattle.opening.specs.declared.Status.the-variants as status
 use Rattle.opening.specs.declared.Opened.{Opened}
 use Rattle.cards.specs.Images.{imageWith, ownParentImage, zeroStash}
 
--- ---- what cards 6 and 9 say
+-- ---- what cards 4, 6 and 9 say
 
 -- every entry that takes an image gives 1, whatever else it is given
 pub record GivesOne (image : List ℕ) : Type 0 where
   pub request : (r : Request) → statusNumber (openRequest image r .status) ≡ 1
-  pub coldBoot : (digest secret : List ℕ) → bootNumber (openColdBoot image digest secret .status) ≡ 1
-  pub updateBoot : (digest secret : List ℕ) (verdict : Bool) → bootNumber (openUpdateBoot image digest secret verdict .status) ≡ 1
+  pub coldBoot : (x : BootInputs) → bootNumber (openColdBoot image x .status) ≡ 1
+  pub updateBoot : (x : BootInputs) (verdict : Bool) → bootNumber (openUpdateBoot image x verdict .status) ≡ 1
   pub store : (w : Work) → storeNumber w image ≡ 1
 
 -- an image at which a stash depends on the free nodes alone: 1,216 words, mark 1, attestation on, well formed
@@ -37,7 +36,13 @@ pub record Serving (image : List ℕ) : Type 0 where
   pub size : length image ≡ imageWords
   pub done : getD image markAt 0 ≡ 1
   pub on : getD image attestationAt 0 ≡ 1
-  pub formed : wellFormed image ≡ true
+  pub formed : wellFormed nodeCount (treeIn image) ≡ true
+
+-- an image whose attestation is off, whatever its nodes hold
+pub record SwitchedOff (image : List ℕ) : Type 0 where
+  pub size : length image ≡ imageWords
+  pub done : getD image markAt 0 ≡ 1
+  pub off : getD image attestationAt 0 ≢ 1
 
 -- a stash request: its code, its length, its checksum
 pub record StashRequest (r : Request) : Type 0 where
@@ -46,7 +51,7 @@ pub record StashRequest (r : Request) : Type 0 where
   pub checksum : le32 (r .bytes) 0 ≡ checksumOf (r .code) (drop 4 (r .bytes))
 
 abbrev pub usedNodes : List ℕ → ℕ
-usedNodes image = countBelow nodeCount (used image)
+usedNodes image = countBelow nodeCount (λ i. treeIn image i .used)
 
 -- "stash accepted": a stash at a node is open with all its stores left, and its answer's dpe result is 0
 pub record Accepted (o : Opened) : Type 0 where
@@ -70,20 +75,21 @@ pub record Cards : Type 0 where
   pub card2 : checksumOf 0x49444549 [] ≡ 0xFFFFFEE5
   -- *3 "Stash, 56 zero bytes: 0xFFFFFEDA."
   pub card3 : checksumOf 0x4D454153 (zeros 56) ≡ 0xFFFFFEDA
-  -- *4 "Stash answer with dpe result 2: 0xFFFFFED8."
-  pub card4 : le32 (answerOf 0x4D454153 (bytes4 2)) 0 ≡ 0xFFFFFED8
+  -- *4 "Stash answer with dpe result 2: 0xFFFFFED8.": the answer of every stash request at every image with attestation off
+  pub card4 : (image : List ℕ) (r : Request) → SwitchedOff image → StashRequest r
+      → Declined (openRequest image r) 2 × (le32 (openRequest image r .work .answer) 0 ≡ 0xFFFFFED8)
   -- *5 "Code 0, no bytes: 0."
   pub card5 : checksumOf 0 [] ≡ 0
   -- *6 "Images of 1,215 and 1,217 words: 1.": every such image
-  pub card6 : (image : List ℕ) → (length image ≡ imageWords - 1) ⊎ (length image ≡ imageWords + 1) → GivesOne image
-  -- *7 "Root's word 0: 0x00FF0001.": whatever it measures
-  pub card7 : (journey : List ℕ) → getD (nodeRow (rootNode journey)) 0 0 ≡ 0x00FF0001
+  pub card6 : (image : List ℕ) → (length image ≡ 1215) ⊎ (length image ≡ 1217) → GivesOne image
+  -- *7 "Root's word 0: 0x00FF0001.": word 400 after all stores of any accepted cold boot
+  pub card7 : (before : List ℕ) (x : BootInputs) → bootNumber (openColdBoot before x .status) ≡ 0 → getD (coldBooted before x) 400 0 ≡ 0x00FF0001
   -- *8 "A used node that is its own parent: not well formed.": in every image; and one such image
-  pub card8 : (image : List ℕ) (i : ℕ) → i < nodeCount → used image i ≡ true → parent image i ≡ i → wellFormed image ≡ false
-  pub image8 : (used ownParentImage 1 ≡ true) × (parent ownParentImage 1 ≡ 1) × (wellFormed ownParentImage ≡ false)
+  pub card8 : (image : List ℕ) (i : ℕ) → i < nodeCount → treeIn image i .used ≡ true → treeIn image i .parent ≡ i → wellFormed nodeCount (treeIn image) ≡ false
+  pub image8 : (treeIn ownParentImage 1 .used ≡ true) × (treeIn ownParentImage 1 .parent ≡ 1) × (wellFormed nodeCount (treeIn ownParentImage) ≡ false)
   -- *9 "23 nodes used: stash accepted; 24: dpe result 1.": every such image and request; and two such images and a request
   pub card9 : (image : List ℕ) (r : Request) → Serving image → StashRequest r
-      → (usedNodes image ≡ nodeCount - 1 → Accepted (openRequest image r)) × (usedNodes image ≡ nodeCount → Declined (openRequest image r) 1)
-  pub images9 : (k : ℕ) → 0 < k → k ≤ nodeCount → Serving (imageWith k) × (usedNodes (imageWith k) ≡ k)
-  pub accepted9 : Accepted (openRequest (imageWith (nodeCount - 1)) zeroStash)
-  pub declined9 : Declined (openRequest (imageWith nodeCount) zeroStash) 1
+      → (usedNodes image ≡ 23 → Accepted (openRequest image r)) × (usedNodes image ≡ 24 → Declined (openRequest image r) 1)
+  pub images9 : (k : ℕ) → 0 < k → k ≤ 24 → Serving (imageWith k) × (usedNodes (imageWith k) ≡ k)
+  pub accepted9 : Accepted (openRequest (imageWith 23) zeroStash)
+  pub declined9 : Declined (openRequest (imageWith 24) zeroStash) 1

@@ -7,16 +7,19 @@ use lib.ListN.{set, replicate}
 use Rattle.layout.specs.Words.{bytes4, zeros}
 use Rattle.tree.specs.Record.{Node}
 use Rattle.opening.specs.Values.{childNode}
-use Rattle.opening.specs.Tasks.{Request, requestOf, Task, stash, coldBoot}
+use Rattle.opening.specs.Tasks.{Request, requestOf, bootOf, Measurement, Task, stash, coldBoot}
 use Rattle.history.specs.Ledger.{State, stateOf, imageOf}
 
 -- a cold boot with the inputs of document 01's program
 abbrev pub firstBoot : Task
-firstBoot = coldBoot (replicate 48 0x11) (replicate 48 0x22)
+firstBoot = coldBoot (bootOf (replicate 48 0x11) (replicate 48 0x22))
 
 -- the boot, then stashes of zero bytes: k nodes are used, one by the boot and one by each stash
+abbrev pub zeroMeasurement : Measurement
+zeroMeasurement = record { type = 0; digest = zeros 48; svn = 0; caller = 0 }
+
 abbrev pub historyOf : ℕ → List Task
-historyOf k = firstBoot ∷ replicate (k - 1) (stash 0 (zeros 48) 0 0)
+historyOf k = firstBoot ∷ replicate (k - 1) (stash zeroMeasurement)
 
 -- its image: mark 1, attestation 1
 unfoldable pub imageWith : ℕ → List ℕ
@@ -24,12 +27,12 @@ imageWith k = imageOf 1 1 (stateOf (historyOf k))
 
 -- where two nodes are used, node 1 is the stash's; here its parent is itself in place of node 0
 abbrev pub ownParent : Node
-ownParent = childNode 1 0 (zeros 48) 0
+ownParent = childNode 1 zeroMeasurement
 
 abbrev pub looped : State
 looped =
     let x = stateOf (historyOf 2) in
-    record { secret = x .secret; registers = x .registers; nodes = set (x .nodes) 1 (some ownParent) }
+    record { secret = x .secret; chain = record { registers = x .chain .registers; nodes = set (x .chain .nodes) 1 (some ownParent) } }
 
 unfoldable pub ownParentImage : List ℕ
 ownParentImage = imageOf 1 1 looped

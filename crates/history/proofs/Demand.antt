@@ -201,28 +201,29 @@ cold-history : (x : BootInputs) → stateOf (coldBoot x ∷ []) ≡ next blank (
 unfolding stateOf
 cold-history x = refl
 
-pub cold-start : (before : List ℕ) (x : BootInputs) → bootNumber (openColdBoot before x .status) ≡ 0 → Related (afterColdBoot before x) (firstLedger x)
+-- the image after an accepted cold boot
+pub cold-image : (before : List ℕ) (x : BootInputs) → bootNumber (openColdBoot before x .status) ≡ 0 → coldBooted before x ≡ imageOf 1 1 (next blank (coldBoot x))
 unfolding openColdBoot coldBooted planAt
-cold-start before x e = go (eqb (length before) imageWords) refl (inputsOk x) e
+cold-image before x e = go (eqb (length before) imageWords) refl (inputsOk x) e
   where
     cold : Work
     cold = workAt before (coldBoot x) []
 
-    image : length before ≡ imageWords → allStores cold before .image ≡ imageAfter (coldBoot x ∷ [])
-    image size =
-        all-made before size cold (cold-shaped before x) (cold-position before x)
-        ∙ run-cold blank x before before size
-        ∙ ap (imageOf 1 1) (sym (cold-history x))
+    image : length before ≡ imageWords → allStores cold before .image ≡ imageOf 1 1 (next blank (coldBoot x))
+    image size = all-made before size cold (cold-shaped before x) (cold-position before x) ∙ run-cold blank x before before size
 
     -- the image's size, and the inputs
     go : (a : Bool) → eqb (length before) imageWords ≡ a → (b : Bool)
         → bootNumber (bootedOf before (cond (not a) (refused number.wrongImage) (cond (not b) (refused number.wrongInputs) (accepted (coldBoot x) []))) .status) ≡ 0
         → (let o = bootedOf before (cond (not a) (refused number.wrongImage) (cond (not b) (refused number.wrongInputs) (accepted (coldBoot x) []))) in
-        Inv (storedBy before (o .work) (o .status)) none (coldBoot x ∷ []) none 0 false false)
-    go true p true q =
-        empty (sound (subst (λ (y : State). Good (y .chain)) (sym (cold-history x)) (good-cold (blank .chain) x)) refl (image (eqb-true (length before) imageWords p)))
+        storedBy before (o .work) (o .status) ≡ imageOf 1 1 (next blank (coldBoot x)))
+    go true p true q = image (eqb-true (length before) imageWords p)
     go true p false q = absurd (omega arith)
     go false p b q = absurd (omega arith)
+
+pub cold-start : (before : List ℕ) (x : BootInputs) → bootNumber (openColdBoot before x .status) ≡ 0 → Related (afterColdBoot before x) (firstLedger x)
+cold-start before x e =
+    empty (sound (subst (λ (y : State). Good (y .chain)) (sym (cold-history x)) (good-cold (blank .chain) x)) refl (cold-image before x e ∙ ap (imageOf 1 1) (sym (cold-history x))))
 
 -- ---- demand 3
 

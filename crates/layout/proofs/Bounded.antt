@@ -194,3 +194,22 @@ count-only q (suc n) k l e h = elim (ℕ-discrete k n) [
   | yes z ↦ rw (ap q (sym z) ∙ e, none-counted q n (λ i b. h i (omega arith) (λ (w : i ≡ k). omega arith)))
   | no z ↦ rw (h n (omega arith) (λ (w : n ≡ k). z (sym w)), count-only q n k (omega arith) e (λ i b. h i (omega arith)))
 ]
+
+-- all of them, or fewer
+pub count-all : (p : ℕ → Bool) (n : ℕ) → ((i : ℕ) → i < n → p i ≡ true) → countBelow n p ≡ n
+unfolding countBelow
+count-all p zero h = refl
+count-all p (suc n) h = rw (h n (omega arith), count-all p n (λ i l. h i (omega arith))) (omega arith)
+
+pub count-not-all : (p : ℕ → Bool) (n i : ℕ) → i < n → p i ≡ false → countBelow n p < n
+count-not-all p n i l e = omega (arith, count-less p (λ j. true) n i l (λ j h. refl) e refl, count-all (λ j. true) n (λ j b. refl))
+
+-- the numbers below k, of those below n
+pub count-first : (p : ℕ → Bool) (n k : ℕ) → k ≤ n → ((i : ℕ) → i < k → p i ≡ true) → ((i : ℕ) → k ≤ i → i < n → p i ≡ false)
+    → countBelow n p ≡ k
+unfolding countBelow
+count-first p zero k l low high = omega arith
+count-first p (suc n) k l low high = elim (decLt n k) [
+  | yes b ↦ rw (low n b, count-all p n (λ i c. low i (omega arith))) (omega arith)
+  | no b ↦ rw (high n (omega arith) (omega arith), count-first p n k (omega arith) low (λ i b c. high i b (omega arith))) (omega arith)
+]

@@ -4,3 +4,4 @@ pub mod Tab
 pub mod Packing
 pub mod Bounded
 pub mod Blocks
+pub mod Figures

@@ -3,3 +3,5 @@ pub mod Sizes
 pub mod Words
 pub mod Below
 pub mod Refusals
+pub mod Geometry
+pub mod Figures

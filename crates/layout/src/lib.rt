@@ -2,6 +2,7 @@
 //
 // The number of nodes and the words of a node are named here and in specs/Sizes.antt, and nowhere
 // else.
+pub mod geometry;
 pub mod image;
 pub mod little_endian;
 pub mod refusals;

@@ -1,0 +1,32 @@
+-- The image's figures, by computing. Assumes nothing.
+use mathlib.Core.Path.{refl}
+use Rattle.layout.specs.Figures.{ImageFigures}
+
+pub image-figures : ImageFigures
+image-figures =
+    record {
+      image = refl;
+      nodes = refl;
+      nodeSize = refl;
+      registers = refl;
+      registerSize = refl;
+      mark = refl;
+      attestation = refl;
+      secret = refl;
+      firstRegister = refl;
+      firstNode = refl;
+      current = refl;
+      journey = refl;
+      stashes = refl;
+      tag = refl;
+      handle = refl;
+      handleSize = refl;
+      flags = refl;
+      nodeCurrent = refl;
+      nodeCumulative = refl;
+      type = refl;
+      locality = refl;
+      rootParent = refl;
+      rootKind = refl;
+      answer = refl;
+    }

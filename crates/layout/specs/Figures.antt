@@ -1,0 +1,36 @@
+-- Document 01's figures of the image as numerals: what a change of the geometry edits by hand. Nothing rests on them. Assumes nothing.
+use mathlib.Core.Path.{_≡_}
+use Rattle.layout.specs.Sizes.{nodeCount, nodeWords, registerCount, registerWords, markAt, attestationAt, secretAt, registersAt, nodesAt, imageWords, registerAt, currentRegister, journeyRegister, stashRegister, tagAt, handleAt, handleWords, flagsAt, currentAt, cumulativeAt, typeAt, localityAt, rootMark, rootType, answerMax}
+
+pub record ImageFigures : Type 0 where
+  -- "an image of 1,216 words"
+  pub image : imageWords ≡ 1216
+  -- "24 measurement nodes, 34 words each"
+  pub nodes : nodeCount ≡ 24
+  pub nodeSize : nodeWords ≡ 34
+  -- "PCR0 to PCR31, 12 words each"
+  pub registers : registerCount ≡ 32
+  pub registerSize : registerWords ≡ 12
+  -- the first word of each part
+  pub mark : markAt ≡ 0
+  pub attestation : attestationAt ≡ 1
+  pub secret : secretAt ≡ 4
+  pub firstRegister : registersAt ≡ 16
+  pub firstNode : nodesAt ≡ 400
+  pub current : registerAt currentRegister ≡ 40
+  pub journey : registerAt journeyRegister ≡ 52
+  pub stashes : registerAt stashRegister ≡ 388
+  -- "offsets within the node"
+  pub tag : tagAt ≡ 1
+  pub handle : handleAt ≡ 2
+  pub handleSize : handleWords ≡ 5
+  pub flags : flagsAt ≡ 7
+  pub nodeCurrent : currentAt ≡ 8
+  pub nodeCumulative : cumulativeAt ≡ 20
+  pub type : typeAt ≡ 32
+  pub locality : localityAt ≡ 33
+  -- "0xFF for the root", "RTJM"
+  pub rootParent : rootMark ≡ 0xFF
+  pub rootKind : rootType ≡ 0x4D4A5452
+  -- the longest answer of the table of commands
+  pub answer : answerMax ≡ 104

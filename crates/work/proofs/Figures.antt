@@ -1,0 +1,8 @@
+-- The numbers of stores, by computing. Assumes nothing.
+use mathlib.Core.Path.{refl}
+use Rattle.work.specs.Table.{numberOf}
+use Rattle.work.specs.Figures.{StoreFigures}
+
+pub store-figures : StoreFigures
+unfolding numberOf
+store-figures = record { stash = λ s. refl; disabling = refl; update = λ r. refl; coldBoot = refl; nothing = refl }
