@@ -2,10 +2,12 @@
 mod puts;
 
 ghost use mathlib.Core.Path.{_≡_};
+ghost use mathlib.Core.Bool.{cond};
+ghost use lib.Dec.{eqb};
 ghost use Prim.Native.Nat.{_<_};
 ghost use Rattle.layout.specs.Sizes.{imageWords};
 ghost use Rattle.work.specs.Table.{numberOf, indexOk, putOf};
-ghost use Rattle.work.specs.Entries.{wellShaped, finished, leftOf, storeResult, storeImage, answerResult, answerBuffer};
+ghost use Rattle.work.specs.Entries.{wellShaped, finished, leftOf, storeNumber, storeResult, storeImage, answerResult, answerBuffer};
 use crate::puts::COLD_STORES;
 use crate::puts::DISABLING_STORES;
 use crate::puts::STASH_STORES;
@@ -92,6 +94,16 @@ fn index_ok(kind: Kind) -> bool
     }
 }
 
+// How many stores on a store of that number brings a work.
+fn step(number: u32) -> usize
+    ensures { λ r. ⌜ r ≡ cond (eqb number 0) 1 0 ⌝ }
+{
+    if number != 0 {
+        return 0;
+    }
+    1
+}
+
 impl Work {
     // Whether the work's indices, answer's length and position are within their bounds.
     fn well_shaped(self) -> bool
@@ -136,30 +148,43 @@ impl Work {
         }
     }
 
+    // The number of a store. Refused: 1, an image of the wrong size; then 9, no store left.
+    fn store_number(self, image: &[u32]) -> u32
+        ensures { λ r. ⌜ r ≡ storeNumber self (now (image .entry)) ⌝ }
+    {
+        if image.len() != IMAGE_WORDS {
+            return 1;
+        }
+        if self.left() == 0 {
+            return 9;
+        }
+        0
+    }
+
+    // Makes the next store if its number is 0.
+    fn put_in(self, number: u32, image: &mut [u32])
+        requires { ⌜ number ≡ storeNumber self (now image) ⌝ }
+        ensures { λ _. ⌜ now (image .exit) ≡ storeImage self (now (image .entry)) ⌝ }
+    {
+        if number == 0 {
+            let put = self.next();
+            let at = put.address;
+            image[at] = put.value;
+        }
+    }
+
     // One store. Refused, with nothing stored: 1, an image of the wrong size; then 9, no store left.
+    // It has one exit, so that the work is copied once, whatever the answer's length.
     pub fn store(self, image: &mut [u32]) -> Stored
         ensures { λ r. ⌜ r ≡ storeResult self (now (image .entry)) ⌝ }
         ensures { λ r. ⌜ now (image .exit) ≡ storeImage self (now (image .entry)) ⌝ }
     {
-        if image.len() != IMAGE_WORDS {
-            return Stored {
-                number: 1,
-                work: self,
-            };
-        }
-        if self.left() == 0 {
-            return Stored {
-                number: 9,
-                work: self,
-            };
-        }
-        let put = self.next();
-        let at = put.address;
-        image[at] = put.value;
+        let number = self.store_number(image);
+        self.put_in(number, image);
         let mut moved = self;
-        moved.position = self.position + 1;
+        moved.position = self.position + step(number);
         Stored {
-            number: 0,
+            number,
             work: moved,
         }
     }
