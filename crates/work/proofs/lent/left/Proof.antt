@@ -15,7 +15,16 @@ number-requires : tie.Need-number-requires
 number-requires c κs = search needs
 
 sub-result : tie.Need-sub-result
-sub-result c = let a = c .before .before .before .args in omega (arith, c .number .ensures, shaped-position (standing (a .kind) (a .position) (a .answer-len)) (told (c .before .before .shaped .ensures) (c .before .if1 .taken)))
+sub-result c =
+    let c2 = c .before .before in
+    let c3 = c2 .before in
+    let a = c3 .args in
+    omega (
+      arith,
+      c .number .ensures,
+      shaped-position (standing (a .kind) (a .position) (a .answer-len))
+          (told (c2 .shaped .ensures) (c .before .if1 .taken)),
+    )
 
 returns : tie.Need-returns
 unfolding leftOf

@@ -13,28 +13,40 @@ enum-told-2 c = search needs
 
 disabling-put-requires : tie.Need-disabling-put-requires
 unfolding numberOf
-disabling-put-requires c κs = let a = c .before .before .before .before .before .before in rw (c .enum-told2 .given .1) at (within (a .args .kind) (a .args .k) (a .pre .0) (a .pre .1))
+disabling-put-requires c κs =
+    let c6 = c .before .before .before .before .before .before in
+    let a = c6 in
+    rw (c .enum-told2 .given .1) at (within (a .args .kind) (a .args .k) (a .pre .0) (a .pre .1))
 
 enum-known-kind : tie.Need-enum-known-kind
 enum-known-kind c = search needs
 
 stash-put-requires : tie.Need-stash-put-requires
 unfolding numberOf
-stash-put-requires c κs = let a = c .before .before .before .before .before .before .before in rw (c .before .kind .given .1) at (within (a .args .kind) (a .args .k) (a .pre .0) (a .pre .1))
+stash-put-requires c κs =
+    let c7 = c .before .before .before .before .before .before .before in
+    let a = c7 in
+    rw (c .before .kind .given .1) at (within (a .args .kind) (a .args .k) (a .pre .0) (a .pre .1))
 
 enum-known-kind-2 : tie.Need-enum-known-kind-2
 enum-known-kind-2 c = search needs
 
 update-put-requires : tie.Need-update-put-requires
 unfolding numberOf
-update-put-requires c κs = let a = c .before .before .before .before .before .before .before in rw (c .before .kind2 .given .1) at (within (a .args .kind) (a .args .k) (a .pre .0) (a .pre .1))
+update-put-requires c κs =
+    let c7 = c .before .before .before .before .before .before .before in
+    let a = c7 in
+    rw (c .before .kind2 .given .1) at (within (a .args .kind) (a .args .k) (a .pre .0) (a .pre .1))
 
 enum-told-3 : tie.Need-enum-told-3
 enum-told-3 c = search needs
 
 cold-put-requires : tie.Need-cold-put-requires
 unfolding numberOf
-cold-put-requires c κs = let a = c .before .before .before .before .before .before in rw (c .enum-told3 .given .1) at (within (a .args .kind) (a .args .k) (a .pre .0) (a .pre .1))
+cold-put-requires c κs =
+    let c6 = c .before .before .before .before .before .before in
+    let a = c6 in
+    rw (c .enum-told3 .given .1) at (within (a .args .kind) (a .args .k) (a .pre .0) (a .pre .1))
 
 returns : tie.Need-returns
 returns c = (rw (c .enum-told .given .1), search needs)

@@ -25,27 +25,48 @@ store-number-requires : tie.Need-store-number-requires
 store-number-requires c κs = search needs
 
 put-at-requires : tie.Need-put-at-requires
-put-at-requires c κs = let g = allowed (work (c .before .before .before .before .before .before .before .before)) (c .before .before .before .before .before .before .before .before .args .image .now) (sym (c .before .store-number .ensures ∙ number-standing (work (c .before .before .before .before .before .before .before .before)) _) ∙ c .if1 .taken) in (shaped-index (work (c .before .before .before .before .before .before .before .before)) (left-shaped (work (c .before .before .before .before .before .before .before .before)) (g .some)), left-position (work (c .before .before .before .before .before .before .before .before)) (g .some))
+put-at-requires c κs =
+    let c8 = c .before .before .before .before .before .before .before .before in
+    let g = allowed (work (c8)) (c8 .args .image .now) (sym (c .before .store-number .ensures ∙ number-standing (work (c8)) _) ∙ c .if1 .taken) in
+    (shaped-index (work (c8)) (left-shaped (work (c8)) (g .some)), left-position (work (c8)) (g .some))
 
 mul-image : tie.Need-mul-image
 mul-image c = search needs
 
 slice-write-image : tie.Need-slice-write-image
-slice-write-image c = let g = allowed (work (c .before .before .before .before .before .before .before .before .before)) (c .before .before .before .before .before .before .before .before .before .args .image .now) (sym (c .before .before .store-number .ensures ∙ number-standing (work (c .before .before .before .before .before .before .before .before .before)) _) ∙ c .before .if1 .taken) in omega (arith, g .size, c .put-at .ensures .1)
+slice-write-image c =
+    let c2 = c .before .before in
+    let c9 = c2 .before .before .before .before .before .before .before in
+    let g = allowed (work (c9)) (c9 .args .image .now) (sym (c2 .store-number .ensures ∙ number-standing (work (c9)) _) ∙ c .before .if1 .taken) in
+    omega (arith, g .size, c .put-at .ensures .1)
 
 same-length : tie.Need-same-length
 same-length c = search needs
 
 returns : tie.Need-returns
 unfolding storeImage putOf runsOf
-returns c = (c .before .before .store-number .ensures ∙ number-standing (work (c .before .before .before .before .before .before .before .before .before)) _, rw (eq-eqb (storeNumber (work (c .before .before .before .before .before .before .before .before .before)) (c .before .before .before .before .before .before .before .before .before .args .image .now)) 0 (sym (c .before .before .store-number .ensures ∙ number-standing (work (c .before .before .before .before .before .before .before .before .before)) _) ∙ c .before .if1 .taken), ← (c .put-at .ensures .0)))
+returns c =
+    let c2 = c .before .before in
+    let c9 = c2 .before .before .before .before .before .before .before in (
+      c2 .store-number .ensures ∙ number-standing (work (c9)) _,
+      rw (
+        eq-eqb (storeNumber (work (c9)) (c9 .args .image .now)) 0 (sym (c2 .store-number .ensures ∙ number-standing (work (c9)) _)
+            ∙ c .before .if1 .taken),
+        ← (c .put-at .ensures .0),
+      ),
+    )
 
 same-length-2 : tie.Need-same-length-2
 same-length-2 c = search needs
 
 returns-2 : tie.Need-returns-2
 unfolding storeImage
-returns-2 c = (c .before .store-number .ensures ∙ number-standing (work (c .before .before .before .before .before .before .before .before)) _, rw (ne-eqb (storeNumber (work (c .before .before .before .before .before .before .before .before)) (c .before .before .before .before .before .before .before .before .args .image .now)) 0 (λ e. c .if1 .left (c .before .store-number .ensures ∙ number-standing (work (c .before .before .before .before .before .before .before .before)) _ ∙ e))))
+returns-2 c =
+    let c8 = c .before .before .before .before .before .before .before .before in (
+      c .before .store-number .ensures ∙ number-standing (work (c8)) _,
+      rw (ne-eqb (storeNumber (work (c8))
+          (c8 .args .image .now)) 0 (λ e. c .if1 .left (c .before .store-number .ensures ∙ number-standing (work (c8)) _ ∙ e))),
+    )
 
 pub store-spec : {M : Type 1} → statement M
 store-spec =

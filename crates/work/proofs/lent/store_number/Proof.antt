@@ -19,11 +19,25 @@ left-requires c κs = search needs
 
 returns-2 : tie.Need-returns-2
 unfolding storeNumber
-returns-2 c = let a = c .before .before .before .before .args in rw (eq-eqb (length (a .image .now)) imageWords (omega arith), le-ltb 0 (leftOf (standing (a .kind) (a .position) (a .answer-len))) (omega (arith, c .before .left .ensures)))
+returns-2 c =
+    let c4 = c .before .before .before .before in
+    let a = c4 .args in
+    rw (
+      eq-eqb (length (a .image .now)) imageWords (omega arith),
+      le-ltb 0 (leftOf (standing (a .kind) (a .position) (a .answer-len)))
+          (omega (arith, c .before .left .ensures)),
+    )
 
 returns-3 : tie.Need-returns-3
 unfolding storeNumber
-returns-3 c = let a = c .before .before .before .before .args in rw (eq-eqb (length (a .image .now)) imageWords (omega arith), lt-ltb 0 (leftOf (standing (a .kind) (a .position) (a .answer-len))) (omega (arith, c .before .left .ensures)))
+returns-3 c =
+    let c4 = c .before .before .before .before in
+    let a = c4 .args in
+    rw (
+      eq-eqb (length (a .image .now)) imageWords (omega arith),
+      lt-ltb 0 (leftOf (standing (a .kind) (a .position) (a .answer-len)))
+          (omega (arith, c .before .left .ensures)),
+    )
 
 pub store-number-spec : {M : Type 1} → statement M
 store-number-spec = tie.close (tie.spec returns left-requires returns-2 returns-3)
