@@ -1,4 +1,2 @@
 -- The definitions that the contracts of waggleloft cite.
 pub mod Digest
-pub mod Flat
-pub mod Forms

@@ -1,29 +1,11 @@
 // The entries over a work for C: stores left, one store, the answer, and the sizes of the buffers.
 ghost use mathlib.Core.Path.{_≡_};
-ghost use lib.ListN.{length};
 ghost use Rattle.layout.specs.Sizes.{imageWords};
-ghost use Rattle.work.specs.Entries.{storeNumber, storeImage};
-ghost use Rattle.waggleloft.specs.Flat.{workSize, workOf, answeringOf};
-ghost use Rattle.waggleloft.specs.Forms.{leftIn, storeNumberIn, storeWords, storeHand, storeImageIn, answerNumberIn, answerWritten, answerBufferIn};
-use crate::flat::ANSWER_IN;
-use crate::flat::JOURNEY_IN;
-use crate::flat::NODE_IN;
-use crate::flat::POSITION_IN;
-use crate::flat::REGISTER_IN;
-use crate::flat::SECRET_IN;
-use crate::flat::WORK_WORDS;
-use crate::flat::WRONG_WORK;
-use crate::flat::answer_in;
-use crate::flat::answer_len_in;
-use crate::flat::high;
-use crate::flat::kind_in;
-use crate::flat::low;
-use crate::flat::position_in;
+ghost use Rattle.flat.specs.Flat.{workSize, workOf};
+ghost use Rattle.flat.specs.Forms.{leftIn, storeNumberIn, storeWords, storeHand, storeImageIn, answerNumberIn, answerWritten, answerBufferIn};
+use flat::WORK_WORDS;
+use flat::held;
 use layout::IMAGE_WORDS;
-use layout::NODE_WORDS;
-use layout::REGISTER_WORDS;
-use work::Work;
-use work::lent;
 
 #[no_mangle]
 pub extern "C" fn waggleloft_work_words() -> usize
@@ -39,37 +21,13 @@ pub extern "C" fn waggleloft_image_words() -> usize
     IMAGE_WORDS
 }
 
-// Of a buffer of another length 0.
 #[no_mangle]
 pub extern "C" fn waggleloft_left(work: &[u32]) -> usize
     ensures { λ r. ⌜ r ≡ leftIn (now (work .entry)) ⌝ }
 {
-    if work.len() != WORK_WORDS {
-        return 0;
-    }
-    lent::left(kind_in(work), position_in(work), answer_len_in(work))
+    held::left(work)
 }
 
-// One store of the work that the words are; the words stay.
-fn store_from(work: &[u32], image: &mut [u32]) -> u32
-    requires { ⌜ length (now work) ≡ workSize ⌝ }
-    ensures { λ r. ⌜ r ≡ storeNumber (workOf (now (work .entry))) (now (image .entry)) ⌝ }
-    ensures { λ r. ⌜ now (image .exit) ≡ storeImage (workOf (now (work .entry))) (now (image .entry)) ⌝ }
-{
-    lent::store(
-        kind_in(work),
-        position_in(work),
-        answer_len_in(work),
-        &work[REGISTER_IN..JOURNEY_IN],
-        &work[JOURNEY_IN..NODE_IN],
-        &work[NODE_IN..SECRET_IN],
-        &work[SECRET_IN..ANSWER_IN],
-        image,
-    )
-}
-
-// Only the position's two words change. Refused, with nothing stored and every word as it was: 28, a
-// buffer of another length; then as the entry.
 #[no_mangle]
 pub extern "C" fn waggleloft_store(work: &mut [u32], image: &mut [u32]) -> u32
     ensures { λ r. ⌜ r ≡ storeNumberIn (now (work .entry)) (now (image .entry)) ⌝ }
@@ -77,51 +35,14 @@ pub extern "C" fn waggleloft_store(work: &mut [u32], image: &mut [u32]) -> u32
     ensures { λ r. ⌜ workOf (now (work .exit)) ≡ storeHand (now (work .entry)) (now (image .entry)) ⌝ }
     ensures { λ r. ⌜ now (image .exit) ≡ storeImageIn (now (work .entry)) (now (image .entry)) ⌝ }
 {
-    if work.len() != WORK_WORDS {
-        return WRONG_WORK;
-    }
-    let number = store_from(work, image);
-    if number != 0 {
-        return number;
-    }
-    let moved = position_in(work) + 1;
-    work[POSITION_IN] = low(moved);
-    work[POSITION_IN + 1] = high(moved);
-    0
+    held::store(work, image)
 }
 
-// What an answer's taking asks of the words: no prepared word.
-fn answering(work: &[u32]) -> Work
-    ensures { λ r. ⌜ r ≡ answeringOf (workOf (now (work .entry))) ⌝ }
-{
-    let kind = kind_in(work);
-    let answer = answer_in(work);
-    Work {
-        kind,
-        position: position_in(work),
-        register: [0u32; REGISTER_WORDS],
-        journey: [0u32; REGISTER_WORDS],
-        node: [0u32; NODE_WORDS],
-        secret: [0u32; REGISTER_WORDS],
-        answer,
-        answer_len: answer_len_in(work),
-    }
-}
-
-// Refused, with nothing written: 28, a buffer of another length; then as the entry.
 #[no_mangle]
 pub extern "C" fn waggleloft_answer(work: &[u32], buffer: &mut [u8], written: &mut usize) -> u32
     ensures { λ r. ⌜ r ≡ answerNumberIn (now (work .entry)) (now (buffer .entry)) ⌝ }
     ensures { λ r. ⌜ now (written .exit) ≡ answerWritten (now (work .entry)) (now (buffer .entry)) (now (written .entry)) ⌝ }
     ensures { λ r. ⌜ now (buffer .exit) ≡ answerBufferIn (now (work .entry)) (now (buffer .entry)) ⌝ }
 {
-    if work.len() != WORK_WORDS {
-        return WRONG_WORK;
-    }
-    let w = answering(work);
-    let a = w.answer(buffer);
-    if a.number == 0 {
-        *written = a.written;
-    }
-    a.number
+    held::answer(work, buffer, written)
 }
