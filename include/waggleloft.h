@@ -27,9 +27,11 @@
  * compiles for nothing else. The archive needs memcpy, uses SSE2 registers,
  * expects the stack aligned to 16 bytes at a call, and uses the 128 bytes below
  * the stack pointer (the red zone): an interrupt that comes on the same stack
- * must leave them alone, and must keep the SSE registers. No function
- * allocates, keeps state, has a global variable or waits, so several threads
- * may call them at the same time on different buffers, and none throws.
+ * must leave them alone, and must keep the SSE registers. The deepest stack is
+ * below 3,500 bytes, of a request's opening; 40 bytes of a store (bench/depth
+ * measures each). No function allocates, keeps state, has a global variable,
+ * waits or throws, so several threads may call them at the same time on
+ * different buffers.
  */
 #ifndef WAGGLELOFT_H
 #define WAGGLELOFT_H

@@ -400,6 +400,7 @@ static void check_refused_requests(void)
     bool all = true;
     fresh();
     all = ask(WAGGLELOFT_STASH_MEASUREMENT, 60) == WAGGLELOFT_OK;
+    fill_words(work, WORK);
     for (size_t len = 0; len <= 80; len++)
         if (len != 60)
             all = request_refused(WAGGLELOFT_STASH_MEASUREMENT, len, WAGGLELOFT_WRONG_LENGTH) && all;
@@ -407,7 +408,7 @@ static void check_refused_requests(void)
         all = request_refused(i == 0 ? 0 : random32() & 0xFFFFFFU, i % 64, WAGGLELOFT_UNKNOWN_CODE) && all;
     request[20] = (uint8_t)(request[20] + 1);
     all = request_refused(WAGGLELOFT_STASH_MEASUREMENT, 60, WAGGLELOFT_BAD_CHECKSUM) && all;
-    check(all, "a refused request leaves the work in hand");
+    check(all, "a refused request leaves the words of a work, whatever they are");
     remember();
     check(ask(WAGGLELOFT_IDENTITY_KEY, 4) == WAGGLELOFT_WRONG_HANDOFF && work_same(), "no handoff table");
     check(ask(WAGGLELOFT_VERIFY_SIGNATURE, 196) == WAGGLELOFT_BAD_SIGNATURE && work_same(), "a verdict that is no");
