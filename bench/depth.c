@@ -42,9 +42,8 @@ static size_t touched(void (*function)(void))
 static void nothing(void) {}
 static void cold_boot(void) { waggleloft_open_cold_boot(image, WAGGLELOFT_IMAGE_WORDS, digest, 48, secret, 48, work, WAGGLELOFT_WORK_WORDS, &outcome); }
 static void update_boot(void) { waggleloft_open_update_boot(image, WAGGLELOFT_IMAGE_WORDS, digest, 48, secret, 48, true, work, WAGGLELOFT_WORK_WORDS, &outcome); }
-static void ask(uint32_t code, size_t len) { waggleloft_open_request(image, WAGGLELOFT_IMAGE_WORDS, code, request, len, 1, handoff, 2048, true, work, WAGGLELOFT_WORK_WORDS); }
-static void stash(void) { ask(WAGGLELOFT_STASH_MEASUREMENT, 60); }
-static void identity_key(void) { ask(WAGGLELOFT_IDENTITY_KEY, 4); }
+static void stash(void) { waggleloft_open_request(image, WAGGLELOFT_IMAGE_WORDS, WAGGLELOFT_STASH_MEASUREMENT, request, 60, 1, handoff, 2048, true, work, WAGGLELOFT_WORK_WORDS); }
+static void identity_key(void) { waggleloft_open_request(image, WAGGLELOFT_IMAGE_WORDS, WAGGLELOFT_IDENTITY_KEY, request, 4, 1, handoff, 2048, true, work, WAGGLELOFT_WORK_WORDS); }
 static void store(void) { waggleloft_store(work, WAGGLELOFT_WORK_WORDS, image, WAGGLELOFT_IMAGE_WORDS); }
 static void left(void) { waggleloft_left(work, WAGGLELOFT_WORK_WORDS); }
 static void answer(void) { waggleloft_answer(work, WAGGLELOFT_WORK_WORDS, buffer, sizeof buffer, &written); }

@@ -108,20 +108,24 @@ impl Work {
     }
 
     // One store. Refused, with nothing stored: 1, an image of the wrong size; then 9, no store left.
-    // It has one exit, so that the work is copied once, whatever the answer's length.
+    // It has one exit and lends the prepared words alone, so that the answer's length costs nothing.
     pub fn store(self, image: &mut [u32]) -> Stored
         ensures { λ r. ⌜ r ≡ storeResult self (now (image .entry)) ⌝ }
         ensures { λ r. ⌜ now (image .exit) ≡ storeImage self (now (image .entry)) ⌝ }
     {
         let kind = self.kind;
+        let register = self.register;
+        let journey = self.journey;
+        let node = self.node;
+        let secret = self.secret;
         let number = lent::store(
             kind,
             self.position,
             self.answer_len,
-            &self.register,
-            &self.journey,
-            &self.node,
-            &self.secret,
+            &register,
+            &journey,
+            &node,
+            &secret,
             image,
         );
         let mut moved = self;
