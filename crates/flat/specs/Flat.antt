@@ -2,8 +2,9 @@
 -- read again; words that no work wrote have a meaning too. Assumes nothing.
 use Prim.Native.Nat.{ℕ, _+_, _*_, _/_, _%_, _<_}
 use mathlib.Core.Bool.{cond}
+use mathlib.Core.Path.{_≡_}
 use mathlib.Core.List.{List, [], _∷_, _++_}
-use lib.ListN.{getD}
+use lib.ListN.{length, getD}
 use lib.Dec.{ltb, eqb}
 use Rattle.layout.specs.Sizes.{registerWords, nodeWords, answerMax}
 use Rattle.layout.specs.Words.{tab, zeros, byteOf, part, wordsAt}
@@ -86,6 +87,15 @@ headOf w =
 -- the parts one after another
 unfoldable pub rowOf : List ℕ → List ℕ → List ℕ → List ℕ → List ℕ → List ℕ → List ℕ
 rowOf head register journey node secret answer = head ++ (register ++ (journey ++ (node ++ (secret ++ answer))))
+
+-- parts as long as a work's
+pub record PartsLong (head register journey node secret answer : List ℕ) : Type 0 where
+  pub head-long : length head ≡ registerIn
+  pub register-long : length register ≡ registerWords
+  pub journey-long : length journey ≡ registerWords
+  pub node-long : length node ≡ nodeWords
+  pub secret-long : length secret ≡ registerWords
+  pub answer-long : length answer ≡ answerWords
 
 unfoldable pub workWords : Work → List ℕ
 workWords w = rowOf (headOf w) (w .register) (w .journey) (w .node) (w .secret) (wordsAt answerWords (w .answer) 0)

@@ -5,11 +5,10 @@ use Prim.Native.Nat.{ℕ, _+_, _-_, _≤_}
 use mathlib.Core.Path.{_≡_, refl, sym, ap, _∙_}
 use mathlib.Core.List.{List}
 use lib.ListN.{length, take, getD, length-set}
-use Rattle.layout.specs.Sizes.{registerWords, nodeWords}
 use Rattle.layout.specs.Words.{tab}
 use Rattle.layout.proofs.Tab.{tab-none, tab-more}
 use Rattle.flat.proofs.Rows.{row-filled}
-use Rattle.flat.specs.Flat.{registerIn, answerWords, workSize, rowOf}
+use Rattle.flat.specs.Flat.{workSize, rowOf}
 use Rattle.flat.proofs.words.write_row.Statement.{statement}
 use Rattle.flat.proofs.words.write_row.Tie as tie
 
@@ -18,10 +17,6 @@ Inv-loop head register journey node secret answer out₀ k₀ out k = (k ≤ wor
 
 abbrev μ-loop : tie.MeasureT-loop
 μ-loop head register journey node secret answer out₀ k₀ out k = workSize - k
-
--- by the parameters' types
-long : (g : tie.Start Inv-loop μ-loop) → (length (g .args .head) ≡ registerIn) × (length (g .args .register) ≡ registerWords) × (length (g .args .journey) ≡ registerWords) × (length (g .args .node) ≡ nodeWords) × (length (g .args .secret) ≡ registerWords) × (length (g .args .answer) ≡ answerWords)
-long g = search needs
 
 loop-holds : tie.Need-loop-holds Inv-loop μ-loop
 loop-holds c = (search needs, search needs, tab-none _)
@@ -49,11 +44,14 @@ same-length : tie.Need-same-length Inv-loop μ-loop
 same-length c = search needs
 
 returns : tie.Need-returns Inv-loop μ-loop
-returns c = let g = c .before .before .before in
+returns c =
+    let g = c .before .before .before .before .before .before .before .before .before in
     let a = g .args in
+    let h = g .pre .1 in
     let l = c .before .loop in
     let e : l .k ≡ workSize = omega arith in
-    row-filled (a .head) (a .register) (a .journey) (a .node) (a .secret) (a .answer) (long g .0) (long g .1) (long g .2) (long g .3) (long g .4) (long g .5)
+    row-filled (a .head .now) (a .register .now) (a .journey .now) (a .node .now) (a .secret .now) (a .answer .now)
+    (h .head-long) (h .register-long) (h .journey-long) (h .node-long) (h .secret-long) (h .answer-long)
     (l .out) (l .inv .1) (rw e at (l .inv .2))
 
 pub write-row-spec : {M : Type 1} → statement M
