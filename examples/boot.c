@@ -1,7 +1,8 @@
 /*
  * What boot code does with the core: a digest and a mailbox checksum.
  *
- *   rt staticlib cabi && gcc -Iinclude examples/boot.c target/staticlib/libcabi.a -o target/boot && target/boot
+ *   rt staticlib waggleloft
+ *   gcc -std=c11 @tests/c/flags examples/boot.c target/staticlib/libwaggleloft.a -o target/boot && target/boot
  */
 #include <stdio.h>
 

@@ -1,36 +1,213 @@
 /*
- * Waggleloft measurement core: the two functions that C code calls.
+ * Waggleloft measurement core: the unit's engine for C and C++.
  *
- * Both are in the archive libcabi.a. They keep no state, allocate nothing and
- * touch no memory but the arguments named here, so several threads may call
- * them at the same time (on different buffers).
+ * All functions are in the archive libwaggleloft.a. The unit's memory is an
+ * image of WAGGLELOFT_IMAGE_WORDS words that the caller holds. An opening (of a
+ * boot or of a mailbox request) reads the image and prepares a work; the work
+ * is then run one store at a time; at the end its answer is taken. Between two
+ * stores anything may happen, a loss of power too: that is what the works are
+ * made for.
  *
- * What the caller has to see to, for both functions:
- *   - each pointer is valid for the length that is passed beside it;
+ *     uint32_t work[WAGGLELOFT_WORK_WORDS], outcome;
+ *     if (waggleloft_open_update_boot(image, WAGGLELOFT_IMAGE_WORDS, digest, 48, secret, 48,
+ *                                     true, work, WAGGLELOFT_WORK_WORDS, &outcome) == WAGGLELOFT_OK)
+ *         while (waggleloft_left(work, WAGGLELOFT_WORK_WORDS) > 0)
+ *             waggleloft_store(work, WAGGLELOFT_WORK_WORDS, image, WAGGLELOFT_IMAGE_WORDS);
+ *
+ * The caller's duties, for every function:
+ *   - each pointer is valid for the length that is passed beside it, or for
+ *     the one object that it names, and is aligned for its type;
  *   - no pointer is null, even where its length is 0;
- *   - the buffer and the message do not overlap.
- * Nothing else is asked: every length and every content has a defined result.
+ *   - what a function writes overlaps nothing else that is passed to it.
+ * Nothing else is asked. Every length, every content and every number has a
+ * defined result, also the words of a work that no opening made; and a call
+ * that hands back another number than WAGGLELOFT_OK has written nothing.
+ *
+ * Platform: x86-64 with the System V calling convention, as today's toolchain
+ * compiles for nothing else. The archive needs memcpy, uses SSE2 registers,
+ * expects the stack aligned to 16 bytes at a call, and uses the 128 bytes below
+ * the stack pointer (the red zone): an interrupt that comes on the same stack
+ * must leave them alone, and must keep the SSE registers. The deepest stack is
+ * below 3,500 bytes, of a request's opening; 40 bytes of a store (bench/depth
+ * measures each). No function allocates, keeps state, has a global variable,
+ * waits or throws, so several threads may call them at the same time on
+ * different buffers.
  */
 #ifndef WAGGLELOFT_H
 #define WAGGLELOFT_H
 
+#include <stdbool.h>
 #include <stddef.h>
 #include <stdint.h>
+
+#define WAGGLELOFT_VERSION_MAJOR 0
+#define WAGGLELOFT_VERSION_MINOR 1
+#define WAGGLELOFT_VERSION_PATCH 0
+#define WAGGLELOFT_VERSION "0.1.0"
 
 #ifdef __cplusplus
 extern "C" {
 #endif
 
-/* Numbers that waggleloft_sha384 hands back. */
-#define WAGGLELOFT_OK UINT32_C(0)               /* the digest was written */
-#define WAGGLELOFT_SHORT_BUFFER UINT32_C(8)     /* buffer shorter than 48 bytes */
-#define WAGGLELOFT_LONG_MESSAGE UINT32_C(10)    /* message longer than 65,535 bytes */
+/* ---- Sizes ---- */
 
-/* Bytes of a SHA-384 digest. */
+/* Words of the unit's image. */
+#define WAGGLELOFT_IMAGE_WORDS 1216
+
+/*
+ * Words of a work: every length of a work that is passed below is this one.
+ * What they hold is the core's business (a boot's hold the device secret:
+ * overwrite them once the work has run). The number may grow with a later
+ * version; waggleloft_work_words() is the archive's own.
+ */
+#define WAGGLELOFT_WORK_WORDS 105
+
+/* The longest answer, in bytes: a buffer of so many bytes takes every answer. */
+#define WAGGLELOFT_ANSWER_LONGEST 104
+
+/* Bytes of a SHA-384 digest, and of a boot's digest and secret. */
 #define WAGGLELOFT_SHA384_BYTES 48
 
 /* The longest message, in bytes, that waggleloft_sha384 takes. */
 #define WAGGLELOFT_SHA384_LONGEST 65535
+
+/* The two sizes that the archive was built with, to compare with the macros. */
+size_t waggleloft_work_words(void);
+size_t waggleloft_image_words(void);
+
+/* ---- Numbers that the functions hand back ---- */
+
+#define WAGGLELOFT_OK UINT32_C(0)               /* accepted, stored or written */
+#define WAGGLELOFT_WRONG_IMAGE UINT32_C(1)      /* the image is not WAGGLELOFT_IMAGE_WORDS words */
+#define WAGGLELOFT_UNFINISHED UINT32_C(2)       /* the image's flow mark is not 1: a boot is needed */
+#define WAGGLELOFT_UNKNOWN_CODE UINT32_C(3)     /* no command has this code */
+#define WAGGLELOFT_WRONG_LENGTH UINT32_C(4)     /* the request is not as long as its command's */
+#define WAGGLELOFT_WRONG_HANDOFF UINT32_C(5)    /* the handoff table is wrong (identity key) */
+#define WAGGLELOFT_WRONG_INPUT UINT32_C(6)      /* digest or secret not 48 bytes, or secret all zero */
+#define WAGGLELOFT_STORES_LEFT UINT32_C(7)      /* no answer before the last store */
+#define WAGGLELOFT_SHORT_BUFFER UINT32_C(8)     /* buffer shorter than the answer, or than 48 bytes */
+#define WAGGLELOFT_NO_STORE_LEFT UINT32_C(9)    /* the work has no store left */
+#define WAGGLELOFT_LONG_MESSAGE UINT32_C(10)    /* message longer than 65,535 bytes */
+#define WAGGLELOFT_NOT_WELL_FORMED UINT32_C(11) /* the image's nodes are not well formed (stash) */
+#define WAGGLELOFT_WRONG_WORK UINT32_C(28)      /* the work is not WAGGLELOFT_WORK_WORDS words */
+#define WAGGLELOFT_BAD_CHECKSUM UINT32_C(0x4243484B)  /* the request's checksum is wrong */
+#define WAGGLELOFT_BAD_SIGNATURE UINT32_C(0x42534947) /* the verdict on a signature is no (verify) */
+
+/* ---- What a boot comes to ---- */
+
+#define WAGGLELOFT_COLD UINT32_C(0)     /* a cold boot: all is measured anew */
+#define WAGGLELOFT_KEPT UINT32_C(1)     /* an update boot that keeps all: nothing to store */
+#define WAGGLELOFT_UPDATED UINT32_C(2)  /* an update boot that counts the new program */
+#define WAGGLELOFT_DISABLED UINT32_C(3) /* something was amiss: attestation goes off */
+
+/* ---- Command codes of the mailbox ---- */
+
+#define WAGGLELOFT_STASH_MEASUREMENT UINT32_C(0x4D454153)
+#define WAGGLELOFT_DISABLE_ATTESTATION UINT32_C(0x4453424C)
+#define WAGGLELOFT_IDENTITY_KEY UINT32_C(0x49444549)
+#define WAGGLELOFT_VERIFY_SIGNATURE UINT32_C(0x53494756)
+
+/* ---- Openings ---- */
+
+/*
+ * Opens a cold boot on an image with any content: every word of it is stored
+ * anew. digest is the SHA-384 digest of the program that boots, secret the
+ * device secret, 48 bytes each.
+ *
+ * Handed back, the first that applies:
+ *   WAGGLELOFT_WRONG_WORK   work_len is not WAGGLELOFT_WORK_WORDS
+ *   WAGGLELOFT_WRONG_IMAGE  image_len is not WAGGLELOFT_IMAGE_WORDS
+ *   WAGGLELOFT_WRONG_INPUT  digest_len or secret_len is not 48, or the secret is all zero
+ *   WAGGLELOFT_OK           otherwise: work is the boot's work, and *outcome is WAGGLELOFT_COLD
+ *
+ * The image is only read. If the boot is refused, work and *outcome stay as
+ * they were: a work in hand may go on.
+ */
+uint32_t waggleloft_open_cold_boot(const uint32_t *image, size_t image_len,
+                                   const uint8_t *digest, size_t digest_len,
+                                   const uint8_t *secret, size_t secret_len,
+                                   uint32_t *work, size_t work_len,
+                                   uint32_t *outcome);
+
+/*
+ * Opens an update boot, as every restart with the image kept is one. verdict
+ * is the ROM's: whether the new program may count. The numbers are those of a
+ * cold boot; *outcome is WAGGLELOFT_KEPT, WAGGLELOFT_UPDATED or
+ * WAGGLELOFT_DISABLED, the last if a work was cut, attestation is off or the
+ * image is damaged.
+ */
+uint32_t waggleloft_open_update_boot(const uint32_t *image, size_t image_len,
+                                     const uint8_t *digest, size_t digest_len,
+                                     const uint8_t *secret, size_t secret_len,
+                                     bool verdict, uint32_t *work,
+                                     size_t work_len, uint32_t *outcome);
+
+/*
+ * Opens a mailbox request: a command code, its request bytes (the first four
+ * are the checksum, lowest byte first), the caller's number, the handoff table
+ * (2,048 bytes, for the identity key; any bytes otherwise) and the verdict on
+ * a signature (for verify; ignored otherwise).
+ *
+ * Handed back, the first that applies: WAGGLELOFT_WRONG_WORK,
+ * WAGGLELOFT_WRONG_IMAGE, WAGGLELOFT_UNFINISHED, WAGGLELOFT_UNKNOWN_CODE,
+ * WAGGLELOFT_WRONG_LENGTH, WAGGLELOFT_BAD_CHECKSUM; then the command's own:
+ * WAGGLELOFT_WRONG_HANDOFF, WAGGLELOFT_BAD_SIGNATURE or
+ * WAGGLELOFT_NOT_WELL_FORMED; otherwise WAGGLELOFT_OK, and work is the
+ * request's work. A stash that is declined is accepted as a request: its work
+ * has nothing to store, and its answer says why.
+ *
+ * The image is only read. If the request is refused, work stays as it was.
+ */
+uint32_t waggleloft_open_request(const uint32_t *image, size_t image_len,
+                                 uint32_t code,
+                                 const uint8_t *bytes, size_t bytes_len,
+                                 uint32_t caller,
+                                 const uint8_t *handoff, size_t handoff_len,
+                                 bool verdict, uint32_t *work,
+                                 size_t work_len);
+
+/* ---- A work ---- */
+
+/*
+ * The stores that are left of a work; 0 of a work whose words are damaged, and
+ * of one that is not WAGGLELOFT_WORK_WORDS words.
+ */
+size_t waggleloft_left(const uint32_t *work, size_t work_len);
+
+/*
+ * Makes the next store: one word of the image takes one value, and the work is
+ * one store on. The image must be the one that the work was opened on, with
+ * nothing written to it since but the work's own stores.
+ *
+ * Handed back, the first that applies:
+ *   WAGGLELOFT_WRONG_WORK     work_len is not WAGGLELOFT_WORK_WORDS
+ *   WAGGLELOFT_WRONG_IMAGE    image_len is not WAGGLELOFT_IMAGE_WORDS
+ *   WAGGLELOFT_NO_STORE_LEFT  no store is left, or the work's words are damaged
+ *   WAGGLELOFT_OK             otherwise
+ *
+ * If the store is refused, work and image stay as they were.
+ */
+uint32_t waggleloft_store(uint32_t *work, size_t work_len, uint32_t *image,
+                          size_t image_len);
+
+/*
+ * Takes the answer of a work, after its last store, into the front of the
+ * buffer. A boot's answer has no bytes; a request's is at most
+ * WAGGLELOFT_ANSWER_LONGEST bytes and may be taken any number of times.
+ *
+ * Handed back, the first that applies:
+ *   WAGGLELOFT_WRONG_WORK    work_len is not WAGGLELOFT_WORK_WORDS
+ *   WAGGLELOFT_STORES_LEFT   stores are left, or the work's words are damaged
+ *   WAGGLELOFT_SHORT_BUFFER  buffer_len is less than the answer's length
+ *   WAGGLELOFT_OK            otherwise: *written is the answer's length, and bytes of the buffer
+ *                            past it stay
+ *
+ * If it is refused, buffer and *written stay as they were.
+ */
+uint32_t waggleloft_answer(const uint32_t *work, size_t work_len,
+                           uint8_t *buffer, size_t buffer_len, size_t *written);
+
+/* ---- Digest and checksum ---- */
 
 /*
  * SHA-384 (FIPS 180-4) of the message_len bytes at message.

@@ -21,14 +21,13 @@ pub fn sha384() -> Option<impl Fn(&[u8], &mut [u8; 48])> {
 }
 
 fn find() -> Option<Sha384> {
-    // SAFETY: both names end with a zero byte, and the symbol has that type in
-    // every OpenSSL 3.
+    // SAFETY: the symbol has that type in every OpenSSL 3.
     unsafe {
-        let library = dlopen(b"libcrypto.so.3\0".as_ptr().cast(), RTLD_NOW);
+        let library = dlopen(c"libcrypto.so.3".as_ptr(), RTLD_NOW);
         if library.is_null() {
             return None;
         }
-        let symbol = dlsym(library, b"SHA384\0".as_ptr().cast());
+        let symbol = dlsym(library, c"SHA384".as_ptr());
         if symbol.is_null() {
             return None;
         }

@@ -69,7 +69,7 @@ pub fn boot_number(status: BootStatus) -> u32
 }
 
 // The number of an outcome.
-pub fn outcome_number(outcome: Outcome) -> u8
+pub fn outcome_number(outcome: Outcome) -> u32
     ensures { λ r. ⌜ r ≡ outcomeNumber outcome ⌝ }
 {
     match outcome {

@@ -60,7 +60,7 @@ Within (Stash s) k = (s .node < nodeCount) × ((s .holder < nodeCount) × (k < n
 Within (Update root) k = (root < nodeCount) × (k < numberOf (Update root))
 Within ColdBoot k = k < numberOf ColdBoot
 
-within : (kind : Kind) (k : ℕ) → indexOk kind ≡ true → k < numberOf kind → Within kind k
+pub within : (kind : Kind) (k : ℕ) → indexOk kind ≡ true → k < numberOf kind → Within kind k
 unfolding indexOk numberOf
 within Nothing k i h = omega arith
 within Disabling k i h = h

@@ -1,4 +1,5 @@
 // A piece of work: what it will store, how far it is, and its prepared answer.
+pub mod lent;
 pub mod make;
 mod puts;
 pub mod run;
@@ -6,27 +7,18 @@ pub mod run;
 ghost use mathlib.Core.Path.{_≡_};
 ghost use mathlib.Core.Bool.{cond};
 ghost use lib.Dec.{eqb};
-ghost use Prim.Native.Nat.{_<_};
-ghost use Rattle.layout.specs.Sizes.{imageWords};
-ghost use Rattle.work.specs.Table.{numberOf, indexOk, putOf};
-ghost use Rattle.work.specs.Entries.{wellShaped, finished, leftOf, storeNumber, storeResult, storeImage, answerResult, answerBuffer};
+ghost use Rattle.work.specs.Table.{numberOf, indexOk};
+ghost use Rattle.work.specs.Entries.{finished, leftOf, storeResult, storeImage, answerResult, answerBuffer};
 use crate::puts::COLD_STORES;
 use crate::puts::DISABLING_STORES;
 use crate::puts::STASH_STORES;
 use crate::puts::UPDATE_STORES;
-use crate::puts::cold_put;
-use crate::puts::disabling_put;
-use crate::puts::stash_put;
-use crate::puts::update_put;
 use layout::ANSWER_MAX;
-use layout::IMAGE_WORDS;
 use layout::NODE_WORDS;
 use layout::NODES;
 use layout::REGISTER_WORDS;
-use layout::refusals::NO_STORE_LEFT;
 use layout::refusals::SHORT_BUFFER;
 use layout::refusals::STORES_LEFT;
-use layout::refusals::WRONG_IMAGE;
 
 // Where a stash stores: the new node, and the node that held the default handle.
 pub struct StashAt {
@@ -75,7 +67,7 @@ pub struct Answered {
 }
 
 // The number of stores of a kind of work.
-fn number(kind: Kind) -> usize
+pub(crate) fn number(kind: Kind) -> usize
     ensures { λ r. ⌜ r ≡ numberOf kind ⌝ }
 {
     match kind {
@@ -88,7 +80,7 @@ fn number(kind: Kind) -> usize
 }
 
 // Whether no index of a kind is beyond the nodes.
-fn index_ok(kind: Kind) -> bool
+pub(crate) fn index_ok(kind: Kind) -> bool
     ensures { λ r. ⌜ r ≡ indexOk kind ⌝ }
 {
     match kind {
@@ -104,89 +96,42 @@ fn index_ok(kind: Kind) -> bool
 fn step(number: u32) -> usize
     ensures { λ r. ⌜ r ≡ cond (eqb number 0) 1 0 ⌝ }
 {
-    if number != 0 {
-        return 0;
+    if number == 0 {
+        return 1;
     }
-    1
+    0
 }
 
 impl Work {
-    // Whether the work's indices, answer's length and position are within their bounds.
-    fn well_shaped(self) -> bool
-        ensures { λ r. ⌜ r ≡ wellShaped self ⌝ }
-    {
-        let kind = self.kind;
-        index_ok(kind) && (self.answer_len <= ANSWER_MAX && self.position <= number(kind))
-    }
-
     // Stores left; 0 of a work that is not well shaped.
     pub fn left(self) -> usize
         ensures { λ r. ⌜ r ≡ leftOf self ⌝ }
     {
         let kind = self.kind;
-        if self.well_shaped() {
-            return number(kind) - self.position;
-        }
-        0
-    }
-
-    // The next store of a work that has one left.
-    fn next(self) -> Put
-        requires { ⌜ 0 < leftOf self ⌝ }
-        ensures { λ r. ⌜ r ≡ putOf self ⌝ }
-        ensures { λ r. ⌜ r .address < imageWords ⌝ }
-    {
-        let kind = self.kind;
-        let k = self.position;
-        let register = self.register;
-        let journey = self.journey;
-        let node = self.node;
-        let secret = self.secret;
-        match kind {
-            Kind::Nothing => Put {
-                address: 0,
-                value: 0,
-            },
-            Kind::Disabling => disabling_put(k),
-            Kind::Stash(at) => stash_put(at, register, node, k),
-            Kind::Update(root) => update_put(root, register, journey, node, secret, k),
-            Kind::ColdBoot => cold_put(register, journey, node, secret, k),
-        }
-    }
-
-    // The number of a store. Refused: 1, an image of the wrong size; then 9, no store left.
-    fn store_number(self, image: &[u32]) -> u32
-        ensures { λ r. ⌜ r ≡ storeNumber self (now (image .entry)) ⌝ }
-    {
-        if image.len() != IMAGE_WORDS {
-            return WRONG_IMAGE;
-        }
-        if self.left() == 0 {
-            return NO_STORE_LEFT;
-        }
-        0
-    }
-
-    // Makes the next store if its number is 0.
-    fn put_in(self, number: u32, image: &mut [u32])
-        requires { ⌜ number ≡ storeNumber self (now image) ⌝ }
-        ensures { λ _. ⌜ now (image .exit) ≡ storeImage self (now (image .entry)) ⌝ }
-    {
-        if number == 0 {
-            let put = self.next();
-            let at = put.address;
-            image[at] = put.value;
-        }
+        lent::left(kind, self.position, self.answer_len)
     }
 
     // One store. Refused, with nothing stored: 1, an image of the wrong size; then 9, no store left.
-    // It has one exit, so that the work is copied once, whatever the answer's length.
+    // It has one exit and lends the prepared words alone, so that the answer's length costs nothing.
     pub fn store(self, image: &mut [u32]) -> Stored
         ensures { λ r. ⌜ r ≡ storeResult self (now (image .entry)) ⌝ }
         ensures { λ r. ⌜ now (image .exit) ≡ storeImage self (now (image .entry)) ⌝ }
     {
-        let number = self.store_number(image);
-        self.put_in(number, image);
+        let kind = self.kind;
+        let register = self.register;
+        let journey = self.journey;
+        let node = self.node;
+        let secret = self.secret;
+        let number = lent::store(
+            kind,
+            self.position,
+            self.answer_len,
+            &register,
+            &journey,
+            &node,
+            &secret,
+            image,
+        );
         let mut moved = self;
         moved.position = self.position + step(number);
         Stored {
@@ -200,7 +145,7 @@ impl Work {
         ensures { λ r. ⌜ r ≡ finished self ⌝ }
     {
         let kind = self.kind;
-        self.well_shaped() && self.position == number(kind)
+        lent::shaped(kind, self.position, self.answer_len) && self.position == number(kind)
     }
 
     // The answer into the front of the buffer. Refused, with nothing written: 7, stores left or not

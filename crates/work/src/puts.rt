@@ -24,6 +24,7 @@ use layout::REGISTER_WORDS;
 use layout::REGISTERS_AT;
 use layout::RETIRED_WORD;
 use layout::SECRET_AT;
+use layout::image::word;
 
 // The mark's values, and attestation's.
 const UNFINISHED: u32 = 0;
@@ -48,16 +49,11 @@ const STASH_HANDLE_END: usize = STASH_NODE_END + HANDLE_WORDS;
 
 pub(crate) const STASH_STORES: usize = STASH_HANDLE_END + 1;
 
-pub(crate) fn stash_put(
-    at: StashAt,
-    register: [u32; REGISTER_WORDS],
-    node: [u32; NODE_WORDS],
-    k: usize,
-) -> Put
+pub(crate) fn stash_put<'a>(at: StashAt, register: &'a [u32], node: &'a [u32], k: usize) -> Put
     requires { ⌜ at .node < nodeCount ⌝ }
     requires { ⌜ at .holder < nodeCount ⌝ }
-    requires { ⌜ k < total (stashRuns at register node) ⌝ }
-    ensures { λ r. ⌜ r ≡ putFrom 0 (stashRuns at register node) k ⌝ }
+    requires { ⌜ k < total (stashRuns at (now register) (now node)) ⌝ }
+    ensures { λ r. ⌜ r ≡ putFrom 0 (stashRuns at (now (register .entry)) (now (node .entry))) k ⌝ }
     ensures { λ r. ⌜ r .address < imageWords ⌝ }
 {
     if k < MARK_END {
@@ -69,13 +65,13 @@ pub(crate) fn stash_put(
     if k < STASH_REGISTER_END {
         return Put {
             address: PCR31_AT + (k - MARK_END),
-            value: register[k - MARK_END],
+            value: word(register, k - MARK_END),
         };
     }
     if k < STASH_NODE_END {
         return Put {
             address: NODES_AT + NODE_WORDS * at.node + (k - STASH_REGISTER_END),
-            value: node[k - STASH_REGISTER_END],
+            value: word(node, k - STASH_REGISTER_END),
         };
     }
     if k < STASH_HANDLE_END {
@@ -137,17 +133,17 @@ const UPDATE_CUMULATIVE_END: usize = UPDATE_CURRENT_END + REGISTER_WORDS;
 
 pub(crate) const UPDATE_STORES: usize = UPDATE_CUMULATIVE_END + 1;
 
-pub(crate) fn update_put(
+pub(crate) fn update_put<'a>(
     root: usize,
-    register: [u32; REGISTER_WORDS],
-    journey: [u32; REGISTER_WORDS],
-    node: [u32; NODE_WORDS],
-    secret: [u32; REGISTER_WORDS],
+    register: &'a [u32],
+    journey: &'a [u32],
+    node: &'a [u32],
+    secret: &'a [u32],
     k: usize,
 ) -> Put
     requires { ⌜ root < nodeCount ⌝ }
-    requires { ⌜ k < total (updateRuns root register journey node secret) ⌝ }
-    ensures { λ r. ⌜ r ≡ putFrom 0 (updateRuns root register journey node secret) k ⌝ }
+    requires { ⌜ k < total (updateRuns root (now register) (now journey) (now node) (now secret)) ⌝ }
+    ensures { λ r. ⌜ r ≡ putFrom 0 (updateRuns root (now (register .entry)) (now (journey .entry)) (now (node .entry)) (now (secret .entry))) k ⌝ }
     ensures { λ r. ⌜ r .address < imageWords ⌝ }
 {
     if k < MARK_END {
@@ -159,31 +155,31 @@ pub(crate) fn update_put(
     if k < UPDATE_REGISTER_END {
         return Put {
             address: PCR2_AT + (k - MARK_END),
-            value: register[k - MARK_END],
+            value: word(register, k - MARK_END),
         };
     }
     if k < UPDATE_JOURNEY_END {
         return Put {
             address: PCR3_AT + (k - UPDATE_REGISTER_END),
-            value: journey[k - UPDATE_REGISTER_END],
+            value: word(journey, k - UPDATE_REGISTER_END),
         };
     }
     if k < UPDATE_SECRET_END {
         return Put {
             address: SECRET_AT + (k - UPDATE_JOURNEY_END),
-            value: secret[k - UPDATE_JOURNEY_END],
+            value: word(secret, k - UPDATE_JOURNEY_END),
         };
     }
     if k < UPDATE_CURRENT_END {
         return Put {
             address: NODES_AT + NODE_WORDS * root + CURRENT_AT + (k - UPDATE_SECRET_END),
-            value: node[CURRENT_AT + (k - UPDATE_SECRET_END)],
+            value: word(node, CURRENT_AT + (k - UPDATE_SECRET_END)),
         };
     }
     if k < UPDATE_CUMULATIVE_END {
         return Put {
             address: NODES_AT + NODE_WORDS * root + CUMULATIVE_AT + (k - UPDATE_CURRENT_END),
-            value: node[CUMULATIVE_AT + (k - UPDATE_CURRENT_END)],
+            value: word(node, CUMULATIVE_AT + (k - UPDATE_CURRENT_END)),
         };
     }
     Put {
@@ -200,15 +196,15 @@ const COLD_ROOT_END: usize = NODES_AT + NODE_WORDS;
 
 pub(crate) const COLD_STORES: usize = IMAGE_WORDS + 1;
 
-pub(crate) fn cold_put(
-    register: [u32; REGISTER_WORDS],
-    journey: [u32; REGISTER_WORDS],
-    node: [u32; NODE_WORDS],
-    secret: [u32; REGISTER_WORDS],
+pub(crate) fn cold_put<'a>(
+    register: &'a [u32],
+    journey: &'a [u32],
+    node: &'a [u32],
+    secret: &'a [u32],
     k: usize,
 ) -> Put
-    requires { ⌜ k < total (coldRuns register journey node secret) ⌝ }
-    ensures { λ r. ⌜ r ≡ putFrom 0 (coldRuns register journey node secret) k ⌝ }
+    requires { ⌜ k < total (coldRuns (now register) (now journey) (now node) (now secret)) ⌝ }
+    ensures { λ r. ⌜ r ≡ putFrom 0 (coldRuns (now (register .entry)) (now (journey .entry)) (now (node .entry)) (now (secret .entry))) k ⌝ }
     ensures { λ r. ⌜ r .address < imageWords ⌝ }
 {
     if k < MARK_END {
@@ -232,7 +228,7 @@ pub(crate) fn cold_put(
     if k < REGISTERS_AT {
         return Put {
             address: k,
-            value: secret[k - SECRET_AT],
+            value: word(secret, k - SECRET_AT),
         };
     }
     if k < PCR2_AT {
@@ -244,13 +240,13 @@ pub(crate) fn cold_put(
     if k < PCR3_AT {
         return Put {
             address: k,
-            value: register[k - PCR2_AT],
+            value: word(register, k - PCR2_AT),
         };
     }
     if k < COLD_JOURNEY_END {
         return Put {
             address: k,
-            value: journey[k - PCR3_AT],
+            value: word(journey, k - PCR3_AT),
         };
     }
     if k < NODES_AT {
@@ -262,7 +258,7 @@ pub(crate) fn cold_put(
     if k < COLD_ROOT_END {
         return Put {
             address: k,
-            value: node[k - NODES_AT],
+            value: word(node, k - NODES_AT),
         };
     }
     if k < IMAGE_WORDS {

@@ -1,6 +1,5 @@
 //! What the tests and the benchmark use of the core, from outside.
 
-pub mod cabi;
 pub mod driver;
 pub mod random;
 pub mod shell;

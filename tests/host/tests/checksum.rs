@@ -1,7 +1,7 @@
 //! waggleloft_checksum.
 
-use host::cabi::checksum;
 use host::random::Random;
+use waggleloft::checksum;
 
 const STASH: u32 = 0x4D45_4153;
 const DISABLE: u32 = 0x4453_424C;

@@ -1,14 +1,13 @@
 //! waggleloft_sha384: which messages have a digest, and which digest.
 
-use host::cabi::{sha384, Digest, LONGEST, LONG_MESSAGE, OK};
 use host::random::Random;
 use host::shell::{hex, machine_digests};
+use waggleloft::{sha384, Refusal, SHA384_LONGEST};
 
 /// The digest, as hexadecimal digits, of a message that is taken.
 fn digits(message: &[u8]) -> String {
-    let Digest { number, bytes } = sha384(message);
-    assert_eq!(number, OK, "{} bytes", message.len());
-    hex(&bytes)
+    let digest = sha384(message);
+    hex(&digest.unwrap_or_else(|refusal| panic!("{} bytes: {refusal}", message.len())))
 }
 
 /// Compares the core with the second implementation on each message.
@@ -38,7 +37,9 @@ fn short_messages() -> Vec<Vec<u8>> {
 
 fn long_messages() -> Vec<Vec<u8>> {
     let mut random = Random::from_seed(2);
-    let lengths: Vec<usize> = (0..300).map(|_| random.between(301, LONGEST)).collect();
+    let lengths: Vec<usize> = (0..300)
+        .map(|_| random.between(301, SHA384_LONGEST))
+        .collect();
     messages(lengths, 3)
 }
 
@@ -88,11 +89,7 @@ fn published_two_block_message() {
 
 #[test]
 fn published_million_letters_are_too_long() {
-    let refused = Digest {
-        number: LONG_MESSAGE,
-        bytes: [0; 48],
-    };
-    assert_eq!(sha384(&vec![b'a'; 1_000_000]), refused);
+    assert_eq!(sha384(&vec![b'a'; 1_000_000]), Err(Refusal::LongMessage));
 }
 
 #[test]
@@ -107,7 +104,7 @@ fn card_11_lengths_agree_with_machine() {
 
 #[test]
 fn card_11_one_byte_too_many_is_refused() {
-    assert_eq!(sha384(&[0; 65_536]).number, LONG_MESSAGE);
+    assert_eq!(sha384(&[0; 65_536]), Err(Refusal::LongMessage));
 }
 
 #[test]

@@ -1,0 +1,98 @@
+/*
+ * How deep each function of the archive goes into the stack: it is called on a
+ * stack of its own that was painted before, and what is painted no more is
+ * counted, the call's own return address and memcpy's share among it.
+ */
+#define _GNU_SOURCE
+#include "waggleloft.h"
+
+#include <stdio.h>
+#include <string.h>
+#include <ucontext.h>
+
+#define STACK 65536
+#define PAINT 0xA5
+
+static _Alignas(64) unsigned char stack[STACK];
+static ucontext_t caller, callee;
+static void (*called)(void);
+
+static uint32_t image[WAGGLELOFT_IMAGE_WORDS], work[WAGGLELOFT_WORK_WORDS], outcome;
+static uint8_t digest[48], secret[48], request[196], handoff[2048], buffer[WAGGLELOFT_ANSWER_LONGEST], message[65535];
+static size_t written;
+
+static void trampoline(void) { called(); }
+
+static size_t touched(void (*function)(void))
+{
+    size_t clean = 0;
+    called = function;
+    memset(stack, PAINT, sizeof stack);
+    getcontext(&callee);
+    callee.uc_stack.ss_sp = stack;
+    callee.uc_stack.ss_size = sizeof stack;
+    callee.uc_link = &caller;
+    makecontext(&callee, trampoline, 0);
+    swapcontext(&caller, &callee);
+    while (clean < sizeof stack && stack[clean] == PAINT)
+        clean++;
+    return sizeof stack - clean;
+}
+
+static void nothing(void) {}
+static void cold_boot(void) { waggleloft_open_cold_boot(image, WAGGLELOFT_IMAGE_WORDS, digest, 48, secret, 48, work, WAGGLELOFT_WORK_WORDS, &outcome); }
+static void update_boot(void) { waggleloft_open_update_boot(image, WAGGLELOFT_IMAGE_WORDS, digest, 48, secret, 48, true, work, WAGGLELOFT_WORK_WORDS, &outcome); }
+static void stash(void) { waggleloft_open_request(image, WAGGLELOFT_IMAGE_WORDS, WAGGLELOFT_STASH_MEASUREMENT, request, 60, 1, handoff, 2048, true, work, WAGGLELOFT_WORK_WORDS); }
+static void identity_key(void) { waggleloft_open_request(image, WAGGLELOFT_IMAGE_WORDS, WAGGLELOFT_IDENTITY_KEY, request, 4, 1, handoff, 2048, true, work, WAGGLELOFT_WORK_WORDS); }
+static void store(void) { waggleloft_store(work, WAGGLELOFT_WORK_WORDS, image, WAGGLELOFT_IMAGE_WORDS); }
+static void left(void) { waggleloft_left(work, WAGGLELOFT_WORK_WORDS); }
+static void answer(void) { waggleloft_answer(work, WAGGLELOFT_WORK_WORDS, buffer, sizeof buffer, &written); }
+static void sha384(void) { waggleloft_sha384(message, sizeof message, buffer, sizeof buffer); }
+static void checksum(void) { waggleloft_checksum(1, message, sizeof message); }
+
+static size_t base;
+
+static void show(const char *name, size_t deepest) { printf("%6zu  %s\n", deepest, name); }
+
+static size_t depth(void (*function)(void)) { return touched(function) - base; }
+
+static void set_checksum(uint32_t code, size_t len)
+{
+    uint32_t sum = waggleloft_checksum(code, request + 4, len - 4);
+    memcpy(request, &sum, 4);
+}
+
+/* Runs the work in hand to its end; the deepest of its stores. */
+static size_t deepest_store(void)
+{
+    size_t deepest = 0;
+    while (waggleloft_left(work, WAGGLELOFT_WORK_WORDS) > 0) {
+        size_t one = depth(store);
+        deepest = one > deepest ? one : deepest;
+    }
+    return deepest;
+}
+
+int main(void)
+{
+    static const uint32_t marker = 0x54484643;
+    memset(digest, 1, sizeof digest);
+    memset(secret, 2, sizeof secret);
+    memcpy(handoff, &marker, sizeof marker);
+    handoff[4] = 1;
+    base = touched(nothing);
+    show("waggleloft_open_cold_boot", depth(cold_boot));
+    show("waggleloft_store, of a cold boot", deepest_store());
+    set_checksum(WAGGLELOFT_STASH_MEASUREMENT, 60);
+    show("waggleloft_open_request, a stash", depth(stash));
+    show("waggleloft_store, of a stash", deepest_store());
+    show("waggleloft_open_update_boot", depth(update_boot));
+    show("waggleloft_store, of an update", deepest_store());
+    set_checksum(WAGGLELOFT_IDENTITY_KEY, 4);
+    show("waggleloft_open_request, the identity key", depth(identity_key));
+    show("waggleloft_answer, of 104 bytes", depth(answer));
+    show("waggleloft_left", depth(left));
+    show("waggleloft_sha384, of 65,535 bytes", depth(sha384));
+    show("waggleloft_checksum", depth(checksum));
+    return written == WAGGLELOFT_ANSWER_LONGEST ? 0 : 1;
+}

@@ -1,2 +1,0 @@
--- The definitions that the contracts of cabi cite.
-pub mod Cabi

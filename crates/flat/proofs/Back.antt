@@ -1,0 +1,118 @@
+-- A work written as words and read back is the same work: the two words of a number give it back, a part of the row is its field, and bytes
+-- packed four to a word are unpacked. It is true of every work within the types of its fields. Assumes nothing.
+use Prim.Native.Nat.{ℕ, _+_, _-_, _*_, _/_, _%_, _≤_, _<_}
+use mathlib.Core.Path.{_≡_, refl, sym, ap, _∙_}
+use mathlib.Core.List.{List}
+use native.Mathlib.Omega.{arith}
+use native.Mathlib.Nat.{zero-add}
+use lib.ListN.{length, getD}
+use Rattle.layout.specs.Sizes.{registerWords, nodeWords, answerMax}
+use Rattle.layout.specs.Words.{part, byteOf, wordsAt, bytesIn}
+use Rattle.layout.proofs.Tab.{tab-is}
+use Rattle.layout.proofs.Packing.{length-words, getD-bytes, bytes-words}
+use Rattle.work.specs.declared.Kind.{Kind}
+use Rattle.work.specs.declared.Kind.the-variants.{Nothing, Disabling, Stash, Update, ColdBoot}
+use Rattle.work.specs.declared.Work.{Work}
+use Rattle.flat.specs.Flat.{registerIn, journeyIn, nodeIn, secretIn, answerIn, answerWords, workSize, lowOf, highOf, joinedOf, kindNumber, firstIndex, secondIndex, headOf, rowOf, workWords, kindOf, positionOf, answerOf, workOf}
+use Rattle.flat.proofs.Rows.{row-register, row-journey, row-node, row-secret, row-answer}
+
+pub joined-back : (n : ℕ) → joinedOf (lowOf n) (highOf n) ≡ n
+joined-back n = omega arith
+
+kind-back : (k : Kind) → kindOf (kindNumber k) (joinedOf (lowOf (firstIndex k)) (highOf (firstIndex k))) (joinedOf (lowOf (secondIndex k)) (highOf (secondIndex k))) ≡ k
+unfolding kindOf kindNumber firstIndex secondIndex
+kind-back Nothing = refl
+kind-back Disabling = refl
+kind-back (Stash at) = rw (joined-back (at .node), joined-back (at .holder))
+kind-back (Update root) = rw (joined-back root)
+kind-back ColdBoot = refl
+
+position-back : (k : Kind) (p : ℕ) → positionOf (kindNumber k) p ≡ p
+unfolding positionOf kindNumber
+position-back Nothing p = refl
+position-back Disabling p = refl
+position-back (Stash at) p = refl
+position-back (Update root) p = refl
+position-back ColdBoot p = refl
+
+-- a work within the types of its fields: lengths, and bytes below 256
+pub record Typed (w : Work) : Type 0 where
+  pub register-long : length (w .register) ≡ registerWords
+  pub journey-long : length (w .journey) ≡ registerWords
+  pub node-long : length (w .node) ≡ nodeWords
+  pub secret-long : length (w .secret) ≡ registerWords
+  pub answer-long : length (w .answer) ≡ answerMax
+  pub bytes-small : (i : ℕ) → getD (w .answer) i 0 < 256
+
+-- a part of words that holds a list is the list
+part-back : (n p : ℕ) (l x : List ℕ) → length x ≡ n → ((j : ℕ) → p ≤ j → j < p + n → getD l j 0 ≡ getD x (j - p) 0) → part n l p ≡ x
+unfolding part
+part-back n p l x h at =
+    tab-is (λ k. getD l (p + k) 0) x n h
+    (λ i b. let e : p + i - p ≡ i = omega arith in at (p + i) (omega arith) (omega arith) ∙ ap (λ (k : ℕ). getD x k 0) e)
+
+module _ (w : Work) (t : Typed w) where
+  packed : List ℕ
+  packed = wordsAt answerWords (w .answer) 0
+
+  nine : length (headOf w) ≡ registerIn
+  unfolding headOf
+  nine = refl
+
+  register-back : part registerWords (workWords w) registerIn ≡ w .register
+  unfolding workWords
+  register-back = part-back registerWords registerIn _ (w .register) (t .register-long)
+      (row-register (headOf w) (w .register) (w .journey) (w .node) (w .secret) (wordsAt answerWords (w .answer) 0) nine (t .register-long) (t .journey-long) (t .node-long) (t .secret-long) (length-words answerWords (w .answer) 0))
+
+  journey-back : part registerWords (workWords w) journeyIn ≡ w .journey
+  unfolding workWords
+  journey-back = part-back registerWords journeyIn _ (w .journey) (t .journey-long)
+      (row-journey (headOf w) (w .register) (w .journey) (w .node) (w .secret) (wordsAt answerWords (w .answer) 0) nine (t .register-long) (t .journey-long) (t .node-long) (t .secret-long) (length-words answerWords (w .answer) 0))
+
+  node-back : part nodeWords (workWords w) nodeIn ≡ w .node
+  unfolding workWords
+  node-back = part-back nodeWords nodeIn _ (w .node) (t .node-long)
+      (row-node (headOf w) (w .register) (w .journey) (w .node) (w .secret) (wordsAt answerWords (w .answer) 0) nine (t .register-long) (t .journey-long) (t .node-long) (t .secret-long) (length-words answerWords (w .answer) 0))
+
+  secret-back : part registerWords (workWords w) secretIn ≡ w .secret
+  unfolding workWords
+  secret-back = part-back registerWords secretIn _ (w .secret) (t .secret-long)
+      (row-secret (headOf w) (w .register) (w .journey) (w .node) (w .secret) (wordsAt answerWords (w .answer) 0) nine (t .register-long) (t .journey-long) (t .node-long) (t .secret-long) (length-words answerWords (w .answer) 0))
+
+  answer-at : (j : ℕ) → answerIn ≤ j → getD (workWords w) j 0 ≡ getD (wordsAt answerWords (w .answer) 0) (j - answerIn) 0
+  unfolding workWords
+  answer-at = row-answer (headOf w) (w .register) (w .journey) (w .node) (w .secret) (wordsAt answerWords (w .answer) 0) nine (t .register-long) (t .journey-long) (t .node-long) (t .secret-long) (length-words answerWords (w .answer) 0)
+
+  answer-back : answerOf (workWords w) ≡ w .answer
+  unfolding answerOf
+  answer-back =
+      tab-is (λ k. byteOf (getD (workWords w) (answerIn + k / 4) 0) (k % 4)) (w .answer) answerMax (t .answer-long)
+      (λ i b.
+      let e : answerIn + i / 4 - answerIn ≡ i / 4 = omega arith in
+      ap (λ (x : ℕ). byteOf x (i % 4)) (answer-at (answerIn + i / 4) (omega arith) ∙ ap (λ (k : ℕ). getD (wordsAt answerWords (w .answer) 0) k 0) e)
+      ∙ sym (getD-bytes answerMax (wordsAt answerWords (w .answer) 0) i b)
+      ∙ ap (λ (l : List ℕ). getD l i 0) (bytes-words answerWords (w .answer) (t .answer-long) (t .bytes-small)))
+
+  at0 : getD (workWords w) 0 0 ≡ kindNumber (w .kind)
+  unfolding workWords rowOf headOf
+  at0 = refl
+
+  at1 : joinedOf (getD (workWords w) 1 0) (getD (workWords w) 2 0) ≡ joinedOf (lowOf (firstIndex (w .kind))) (highOf (firstIndex (w .kind)))
+  unfolding workWords rowOf headOf
+  at1 = refl
+
+  at3 : joinedOf (getD (workWords w) 3 0) (getD (workWords w) 4 0) ≡ joinedOf (lowOf (secondIndex (w .kind))) (highOf (secondIndex (w .kind)))
+  unfolding workWords rowOf headOf
+  at3 = refl
+
+  at5 : joinedOf (getD (workWords w) 5 0) (getD (workWords w) 6 0) ≡ w .position
+  unfolding workWords rowOf headOf
+  at5 = joined-back (w .position)
+
+  at7 : joinedOf (getD (workWords w) 7 0) (getD (workWords w) 8 0) ≡ w .«answer_len»
+  unfolding workWords rowOf headOf
+  at7 = joined-back (w .«answer_len»)
+
+  pub work-back : workOf (workWords w) ≡ w
+  unfolding workOf
+  work-back = rw (at0, at1, at3, at5, at7, kind-back (w .kind), position-back (w .kind) (w .position), register-back, journey-back, node-back, secret-back, answer-back)

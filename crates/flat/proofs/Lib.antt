@@ -1,0 +1,6 @@
+-- Laws that belong to no one function.
+pub mod Rows
+pub mod Back
+pub mod Opens
+pub mod Stored
+pub mod Answers

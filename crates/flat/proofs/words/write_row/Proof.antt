@@ -1,0 +1,71 @@
+-- `write_row` meets its contract. The invariant: the first k words are the row's. Assumes nothing.
+use borrow.Author.Needs.{needs}
+use native.Mathlib.Omega.{arith}
+use Prim.Native.Nat.{ℕ, _+_, _-_, _≤_}
+use mathlib.Core.Path.{_≡_, refl, sym, ap, _∙_}
+use mathlib.Core.List.{List}
+use lib.ListN.{length, take, getD, length-set}
+use Rattle.layout.specs.Words.{tab}
+use Rattle.layout.proofs.Tab.{tab-none, tab-more}
+use Rattle.flat.proofs.Rows.{row-filled}
+use Rattle.flat.specs.Flat.{workSize, rowOf}
+use Rattle.flat.proofs.words.write_row.Statement.{statement}
+use Rattle.flat.proofs.words.write_row.Tie as tie
+
+abbrev Inv-loop : tie.InvT-loop
+Inv-loop head register journey node secret answer out₀ k₀ out k = (k ≤ workSize) × (length (out) ≡ workSize) × (take k (out) ≡ tab k (λ i. getD (rowOf head register journey node secret answer) i 0))
+
+abbrev μ-loop : tie.MeasureT-loop
+μ-loop head register journey node secret answer out₀ k₀ out k = workSize - k
+
+loop-holds : tie.Need-loop-holds Inv-loop μ-loop
+loop-holds c = (search needs, search needs, tab-none _)
+
+row-word-requires : tie.Need-row-word-requires Inv-loop μ-loop
+row-word-requires c κs = search needs
+
+mul-out : tie.Need-mul-out Inv-loop μ-loop
+mul-out c = search needs
+
+slice-write-out : tie.Need-slice-write-out Inv-loop μ-loop
+slice-write-out c = search needs
+
+add-k : tie.Need-add-k Inv-loop μ-loop
+add-k c = search needs
+
+loop-less : tie.Need-loop-less Inv-loop μ-loop
+loop-less c = search needs
+
+loop-again : tie.Need-loop-again Inv-loop μ-loop
+loop-again c = let l = c .before .before .loop in
+    (omega arith, simp length-set (l .inv .1), tab-more _ (l .out) (l .k) (c .row-word .result) (omega arith) (c .row-word .ensures) (l .inv .2))
+
+same-length : tie.Need-same-length Inv-loop μ-loop
+same-length c = search needs
+
+returns : tie.Need-returns Inv-loop μ-loop
+returns c =
+    let g = c .before .before .before .before .before .before .before .before .before in
+    let a = g .args in
+    let h = g .pre .1 in
+    let l = c .before .loop in
+    let e : l .k ≡ workSize = omega arith in
+    row-filled (a .head .now) (a .register .now) (a .journey .now) (a .node .now) (a .secret .now) (a .answer .now)
+    (h .head-long) (h .register-long) (h .journey-long) (h .node-long) (h .secret-long) (h .answer-long)
+    (l .out) (l .inv .1) (rw e at (l .inv .2))
+
+pub write-row-spec : {M : Type 1} → statement M
+write-row-spec =
+    tie.close
+    (tie.spec
+    Inv-loop
+    μ-loop
+    loop-holds
+    row-word-requires
+    mul-out
+    slice-write-out
+    add-k
+    loop-less
+    loop-again
+    same-length
+    returns)

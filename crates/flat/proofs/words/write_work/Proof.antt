@@ -1,0 +1,85 @@
+-- `write_work` meets its contract: the parts of the row are the work's, and what is written is read back (Back), as an array of bytes
+-- holds bytes. Assumes nothing.
+use Prim.Native.Nat.{ℕ, _<_}
+use lib.ListN.{getD}
+use mathlib.Core.Path.{ap, ap₂, _∙_}
+use mathlib.Core.List.{List}
+use Rattle.flat.specs.Flat.{rowOf, workWords, workOf}
+use Rattle.flat.proofs.Back.{Typed, work-back}
+use borrow.Author.Needs.{needs}
+use Rattle.flat.proofs.words.write_work.Statement.{statement}
+use Rattle.flat.proofs.words.write_work.Tie as tie
+
+head-of-requires : tie.Need-head-of-requires
+head-of-requires c κs = search needs
+
+slice-aggregate-packed : tie.Need-slice-aggregate-packed
+slice-aggregate-packed c = search needs
+
+packed-requires : tie.Need-packed-requires
+packed-requires c κs = search needs
+
+slice-aggregate-write-row : tie.Need-slice-aggregate-write-row
+slice-aggregate-write-row c = search needs
+
+slice-aggregate-write-row-2 : tie.Need-slice-aggregate-write-row-2
+slice-aggregate-write-row-2 c = search needs
+
+slice-aggregate-write-row-3 : tie.Need-slice-aggregate-write-row-3
+slice-aggregate-write-row-3 c = search needs
+
+slice-aggregate-write-row-4 : tie.Need-slice-aggregate-write-row-4
+slice-aggregate-write-row-4 c = search needs
+
+slice-aggregate-write-row-5 : tie.Need-slice-aggregate-write-row-5
+slice-aggregate-write-row-5 c = search needs
+
+slice-aggregate-write-row-6 : tie.Need-slice-aggregate-write-row-6
+slice-aggregate-write-row-6 c = search needs
+
+write-row-requires : tie.Need-write-row-requires
+write-row-requires c κs = search needs
+
+same-length : tie.Need-same-length
+same-length c = search needs
+
+-- by the types of the work's fields
+typed : (g : tie.Start) → ((i : ℕ) → getD (g .args .w .answer) i 0 < 256) → Typed (g .args .w)
+typed g small =
+    record {
+      register-long = search needs;
+      journey-long = search needs;
+      node-long = search needs;
+      secret-long = search needs;
+      answer-long = search needs;
+      bytes-small = small;
+    }
+
+returns : tie.Need-returns
+unfolding workWords
+returns c =
+    let c2 = c .before .before in
+    let c10 = c2 .before .before .before .before .before .before .before .before in
+    let c17 = c10 .before .before .before .before .before .before .before in
+    let c19 = c17 .before .before in
+    let w = c19 .args .w in
+    let e = c2 .write-row .ensures ∙ ap₂ (λ (x y : List ℕ). rowOf x (w .register) (w .journey) (w .node) (w .secret) y) (c17 .head-of .ensures)
+    (c10 .packed .ensures .0) in
+    (e, ap workOf e ∙ work-back w (typed (c19) (c10 .packed .ensures .1)))
+
+pub write-work-spec : {M : Type 1} → statement M
+write-work-spec =
+    tie.close
+    (tie.spec
+    head-of-requires
+    slice-aggregate-packed
+    packed-requires
+    slice-aggregate-write-row
+    slice-aggregate-write-row-2
+    slice-aggregate-write-row-3
+    slice-aggregate-write-row-4
+    slice-aggregate-write-row-5
+    slice-aggregate-write-row-6
+    write-row-requires
+    same-length
+    returns)

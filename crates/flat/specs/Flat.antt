@@ -1,0 +1,154 @@
+-- A work as the words of a lent buffer (`workWords`), and the work that any words are (`workOf`). A work that is written is the work that is
+-- read again; words that no work wrote have a meaning too. Assumes nothing.
+use Prim.Native.Nat.{ℕ, _+_, _*_, _/_, _%_, _<_}
+use mathlib.Core.Bool.{cond}
+use mathlib.Core.Path.{_≡_}
+use mathlib.Core.List.{List, [], _∷_, _++_}
+use lib.ListN.{length, getD}
+use lib.Dec.{ltb, eqb}
+use Rattle.layout.specs.Sizes.{registerWords, nodeWords, answerMax}
+use Rattle.layout.specs.Words.{tab, zeros, byteOf, part, wordsAt}
+use Rattle.work.specs.declared.Kind.{Kind}
+use Rattle.work.specs.declared.Kind.the-variants.{Nothing, Disabling, Stash, Update, ColdBoot}
+use Rattle.work.specs.declared.StashAt.{StashAt}
+use Rattle.work.specs.declared.Work.{Work}
+
+-- ---- where each field stands
+
+-- words 0 to 8: the kind's number, then the two words, low and high, of its first index, its second index, the position, the answer's length
+abbrev pub positionIn : ℕ
+positionIn = 5
+
+abbrev pub registerIn : ℕ
+registerIn = 9
+
+abbrev pub journeyIn : ℕ
+journeyIn = registerIn + registerWords
+
+abbrev pub nodeIn : ℕ
+nodeIn = journeyIn + registerWords
+
+abbrev pub secretIn : ℕ
+secretIn = nodeIn + nodeWords
+
+abbrev pub answerIn : ℕ
+answerIn = secretIn + registerWords
+
+-- the answer's bytes, four to a word, the first lowest
+abbrev pub answerWords : ℕ
+answerWords = answerMax / 4
+
+abbrev pub workSize : ℕ
+workSize = answerIn + answerWords
+
+-- ---- from a work to words
+
+abbrev pub lowOf : ℕ → ℕ
+lowOf n = n % 4294967296
+
+abbrev pub highOf : ℕ → ℕ
+highOf n = n / 4294967296
+
+unfoldable pub kindNumber : Kind → ℕ
+kindNumber Nothing = 0
+kindNumber Disabling = 1
+kindNumber (Stash at) = 2
+kindNumber (Update root) = 3
+kindNumber ColdBoot = 4
+
+-- an index that a kind does not have is 0
+unfoldable pub firstIndex : Kind → ℕ
+firstIndex Nothing = 0
+firstIndex Disabling = 0
+firstIndex (Stash at) = at .node
+firstIndex (Update root) = root
+firstIndex ColdBoot = 0
+
+unfoldable pub secondIndex : Kind → ℕ
+secondIndex Nothing = 0
+secondIndex Disabling = 0
+secondIndex (Stash at) = at .holder
+secondIndex (Update root) = 0
+secondIndex ColdBoot = 0
+
+unfoldable pub headOf : Work → List ℕ
+headOf w =
+    kindNumber (w .kind)
+    ∷ lowOf (firstIndex (w .kind))
+    ∷ highOf (firstIndex (w .kind))
+    ∷ lowOf (secondIndex (w .kind))
+    ∷ highOf (secondIndex (w .kind))
+    ∷ lowOf (w .position)
+    ∷ highOf (w .position)
+    ∷ lowOf (w .«answer_len»)
+    ∷ highOf (w .«answer_len»)
+    ∷ []
+
+-- the parts one after another
+unfoldable pub rowOf : List ℕ → List ℕ → List ℕ → List ℕ → List ℕ → List ℕ → List ℕ
+rowOf head register journey node secret answer = head ++ (register ++ (journey ++ (node ++ (secret ++ answer))))
+
+-- parts as long as a work's
+pub record PartsLong (head register journey node secret answer : List ℕ) : Type 0 where
+  pub head-long : length head ≡ registerIn
+  pub register-long : length register ≡ registerWords
+  pub journey-long : length journey ≡ registerWords
+  pub node-long : length node ≡ nodeWords
+  pub secret-long : length secret ≡ registerWords
+  pub answer-long : length answer ≡ answerWords
+
+unfoldable pub workWords : Work → List ℕ
+workWords w = rowOf (headOf w) (w .register) (w .journey) (w .node) (w .secret) (wordsAt answerWords (w .answer) 0)
+
+-- a list of bytes
+abbrev pub AllBytes : List ℕ → Type 0
+AllBytes l = (i : ℕ) → getD l i 0 < 256
+
+-- ---- from words to a work: of any words
+
+abbrev pub joinedOf : ℕ → ℕ → ℕ
+joinedOf low high = low + 4294967296 * high
+
+-- a number of two words
+abbrev pub longAt : List ℕ → ℕ → ℕ
+longAt l at = joinedOf (getD l at 0) (getD l (at + 1) 0)
+
+-- a number that is no kind's goes as no stores
+unfoldable pub kindOf : ℕ → ℕ → ℕ → Kind
+kindOf number first second =
+    cond (eqb number 1) Disabling
+    (cond (eqb number 2) (Stash (record { node = first; holder = second })) (cond (eqb number 3) (Update first) (cond (eqb number 4) ColdBoot Nothing)))
+
+-- and as past the last of them, so that such a work is not well shaped
+unfoldable pub positionOf : ℕ → ℕ → ℕ
+positionOf number position = cond (ltb number 5) position 1
+
+unfoldable pub answerOf : List ℕ → List ℕ
+answerOf l = tab answerMax (λ k. byteOf (getD l (answerIn + k / 4) 0) (k % 4))
+
+unfoldable pub workOf : List ℕ → Work
+workOf l =
+    record {
+      kind = kindOf (getD l 0 0) (longAt l 1) (longAt l 3);
+      position = positionOf (getD l 0 0) (longAt l 5);
+      register = part registerWords l registerIn;
+      journey = part registerWords l journeyIn;
+      node = part nodeWords l nodeIn;
+      secret = part registerWords l secretIn;
+      answer = answerOf l;
+      «answer_len» = longAt l 7;
+    }
+
+-- what an answer's taking asks of a work: no prepared word
+unfoldable pub answeringOf : Work → Work
+answeringOf w =
+    record {
+      kind = w .kind;
+      position = w .position;
+      register = zeros registerWords;
+      journey = zeros registerWords;
+      node = zeros nodeWords;
+      secret = zeros registerWords;
+      answer = w .answer;
+      «answer_len» = w .«answer_len»;
+    }

@@ -1,0 +1,2 @@
+-- The definitions that the contracts of waggleloft cite.
+pub mod Digest

@@ -1,0 +1,55 @@
+/*
+ * The header from C++: every function is called, with its types as the header
+ * gives them. Prints, last, 'N passed, M failed'.
+ */
+#include "waggleloft.h"
+
+#include <array>
+#include <cstdint>
+#include <cstdio>
+#include <cstring>
+
+static unsigned passed;
+static unsigned failed;
+
+static void check(bool holds, const char *name)
+{
+    if (holds) {
+        passed++;
+    } else {
+        failed++;
+        std::printf("FAILED: %s\n", name);
+    }
+}
+
+int main()
+{
+    std::array<std::uint32_t, WAGGLELOFT_IMAGE_WORDS> image{};
+    std::array<std::uint32_t, WAGGLELOFT_WORK_WORDS> work{};
+    std::array<std::uint8_t, WAGGLELOFT_SHA384_BYTES> digest{}, secret{};
+    std::array<std::uint8_t, WAGGLELOFT_ANSWER_LONGEST> answer{};
+    const std::array<std::uint8_t, 4> disable{0xDB, 0xFE, 0xFF, 0xFF};
+    const std::array<std::uint8_t, 1> none{};
+    std::uint32_t outcome = 99;
+    std::size_t written = 99, stores = 0;
+
+    check(waggleloft_work_words() == work.size() && waggleloft_image_words() == image.size(), "sizes");
+    check(std::strcmp(WAGGLELOFT_VERSION, "0.1.0") == 0, "version");
+    check(waggleloft_sha384(none.data(), 0, digest.data(), digest.size()) == WAGGLELOFT_OK && digest[0] == 0x38, "digest of nothing");
+    check(waggleloft_checksum(WAGGLELOFT_DISABLE_ATTESTATION, none.data(), 0) == UINT32_C(0xFFFFFEDB), "checksum");
+    secret.fill(0x22);
+    check(waggleloft_open_cold_boot(image.data(), image.size(), digest.data(), digest.size(), secret.data(), secret.size(), work.data(),
+                                    work.size(), &outcome) == WAGGLELOFT_OK && outcome == WAGGLELOFT_COLD, "cold boot");
+    while (waggleloft_store(work.data(), work.size(), image.data(), image.size()) == WAGGLELOFT_OK)
+        stores++;
+    check(stores == 1217, "stores of a cold boot");
+    check(waggleloft_open_request(image.data(), image.size(), WAGGLELOFT_DISABLE_ATTESTATION, disable.data(), disable.size(), 0,
+                                  none.data(), 0, false, work.data(), work.size()) == WAGGLELOFT_OK, "disable");
+    check(waggleloft_left(work.data(), work.size()) == 15, "stores of a disabling");
+    check(waggleloft_answer(work.data(), work.size(), answer.data(), answer.size(), &written) == WAGGLELOFT_STORES_LEFT && written == 99, "no answer yet");
+    check(waggleloft_open_update_boot(image.data(), image.size(), digest.data(), digest.size(), secret.data(), secret.size(), false,
+                                      work.data(), work.size(), &outcome) == WAGGLELOFT_OK && outcome == WAGGLELOFT_KEPT, "update boot");
+
+    std::printf("%u passed, %u failed\n", passed, failed);
+    return failed != 0;
+}

@@ -1,0 +1,89 @@
+//! The Waggleloft measurement core for Rust firmware: safe calls of the proved archive
+//! `libwaggleloft.a` (x86-64 only, as today's toolchain compiles for nothing else).
+//!
+//! The unit's memory is an image of [`IMAGE_WORDS`] words that the caller holds. An opening, of a boot
+//! or of a mailbox request, reads the image and prepares a [`Work`]; the work is then run one store at
+//! a time, and at the end its answer is taken. Between two stores anything may happen, a loss of power
+//! too.
+//!
+//! Nothing here allocates, panics or keeps state. A call that hands back a [`Refusal`] has written
+//! nothing.
+//!
+//! ```
+//! use waggleloft::{Outcome, Refusal, Work, IMAGE_WORDS};
+//!
+//! let mut image = [0; IMAGE_WORDS];
+//! let mut work = Work::new();
+//! let digest = waggleloft::sha384(b"the runtime")?;
+//! let outcome = work.open_cold_boot(&image, &digest, &[0x5A; 48])?;
+//! assert_eq!(outcome, Outcome::Cold);
+//! assert_eq!(work.left(), 1217);
+//! while work.left() > 0 {
+//!     work.store(&mut image)?;
+//! }
+//! assert_eq!(work.store(&mut image), Err(Refusal::NoStoreLeft));
+//! assert_eq!(image[1], 1, "attestation is on");
+//! # Ok::<(), Refusal>(())
+//! ```
+
+#![no_std]
+
+mod archive;
+mod refusal;
+mod work;
+
+pub use refusal::Refusal;
+pub use work::{Outcome, Request, Work};
+
+/// Words of the unit's image.
+pub const IMAGE_WORDS: usize = 1216;
+/// Words of a work. It may grow with a later version.
+pub const WORK_WORDS: usize = 105;
+/// The longest answer, in bytes: a buffer of so many bytes takes every answer.
+pub const ANSWER_LONGEST: usize = 104;
+/// Bytes of a SHA-384 digest.
+pub const SHA384_BYTES: usize = 48;
+/// The longest message, in bytes, that has a digest.
+pub const SHA384_LONGEST: usize = 65_535;
+
+/// Command codes of the mailbox.
+pub mod code {
+    /// Adds a measurement to the list.
+    pub const STASH_MEASUREMENT: u32 = 0x4D45_4153;
+    /// Switches attestation off.
+    pub const DISABLE_ATTESTATION: u32 = 0x4453_424C;
+    /// Asks for the identity key of the handoff table.
+    pub const IDENTITY_KEY: u32 = 0x4944_4549;
+    /// Hands back the verdict on a signature.
+    pub const VERIFY_SIGNATURE: u32 = 0x5349_4756;
+}
+
+/// The SHA-384 digest of a message.
+///
+/// Refused: [`Refusal::LongMessage`].
+pub fn sha384(message: &[u8]) -> Result<[u8; SHA384_BYTES], Refusal> {
+    let mut digest = [0; SHA384_BYTES];
+    sha384_into(message, &mut digest)?;
+    Ok(digest)
+}
+
+/// The SHA-384 digest of a message into the first 48 bytes of a buffer, whose other bytes stay.
+///
+/// Refused, the first that applies: [`Refusal::LongMessage`], [`Refusal::ShortBuffer`].
+pub fn sha384_into(message: &[u8], buffer: &mut [u8]) -> Result<(), Refusal> {
+    Refusal::check(archive::sha384(message, buffer))
+}
+
+/// The mailbox checksum of a command code and of the bytes after the checksum field: zero minus the
+/// sum of the code's four bytes and of all the bytes, modulo 2^32.
+pub fn checksum(code: u32, bytes: &[u8]) -> u32 {
+    archive::checksum(code, bytes)
+}
+
+/// The sizes that the archive was built with: words of a work, words of an image.
+///
+/// They are [`WORK_WORDS`] and [`IMAGE_WORDS`] of the archive that belongs to this version; with any
+/// other, the entries refuse.
+pub fn archive_sizes() -> (usize, usize) {
+    (archive::work_words(), archive::image_words())
+}
