@@ -6,17 +6,16 @@ use native.Mathlib.Nat.{add-zero}
 use native.Mathlib.Omega.{arith}
 use native.Mathlib.Decide.{ℕ-discrete, decLt}
 use mathlib.Core.Bool.{Bool, true, false, not, true≢false}
-use mathlib.Core.List.{List, [], _∷_, foldl}
+use mathlib.Core.List.{List, foldl}
 use mathlib.Core.Option.{Option, none, some}
-use lib.ListN.{length, getD, set, replicate, length-replicate, length-set}
+use lib.ListN.{getD, set, replicate, length-replicate, length-set}
 use lib.Seq.{getD-set-same, getD-set-other}
 use Rattle.layout.specs.Sizes.{nodeCount}
-use Rattle.layout.specs.Words.{zeros}
 use Rattle.layout.proofs.Blocks.{getD-kept}
-use Rattle.layout.proofs.Bounded.{count-first, first-there, first-lowest, first-le}
+use Rattle.layout.proofs.Bounded.{count-first, first-lowest}
 use Rattle.tree.specs.Tree.{Place, Tree, defaultWords, nodeWith, lowestFree, wellFormed}
 use Rattle.tree.specs.Nodes.{word, treeIn}
-use Rattle.tree.specs.Record.{Node, retiredHandle, withHandle, placeOf, placeRow, treeOf}
+use Rattle.tree.specs.Record.{Node, retiredHandle, withHandle, placeOf, treeOf}
 use Rattle.tree.proofs.Rows.{row-first}
 use Rattle.tree.proofs.WellFormed.{free-there}
 use Rattle.opening.specs.Values.{measured, childNode, rootNode}

@@ -1,18 +1,18 @@
 -- What a stash request gets on an image, by attestation and by the number of used nodes. Assumes nothing.
 use mathlib.Core.Path.{_≡_, refl, sym}
-use Prim.Native.Nat.{ℕ, _<_, _≤_}
+use Prim.Native.Nat.{ℕ, _<_}
 use native.Mathlib.Omega.{arith}
 use native.Mathlib.Decide.{decLt}
 use mathlib.Core.Bool.{Bool, true, false, cond, not}
 use mathlib.Core.List.{List}
 use lib.Dec.{leb}
 use borrow.Author.Tests.{eq-eqb, ne-eqb, lt-leb, le-leb, lt-ltb}
-use lib.ListN.{length, getD, drop}
+use lib.ListN.{getD, drop}
 use Rattle.layout.specs.Sizes.{nodeCount, attestationAt}
 use Rattle.layout.specs.Words.{le32, bytes4}
 use Rattle.layout.proofs.Bounded.{first-lowest, count-all, count-not-all}
 use Rattle.message.specs.Checksum.{checksumOf}
-use Rattle.tree.specs.Tree.{Tree, defaultWords, nodeWith, lowestFree, wellFormed}
+use Rattle.tree.specs.Tree.{Tree, defaultWords, nodeWith, lowestFree}
 use Rattle.tree.specs.Nodes.{treeIn}
 use Rattle.tree.proofs.WellFormed.{free-there, holder-only}
 use Rattle.work.specs.Table.{numberOf, indexOk}

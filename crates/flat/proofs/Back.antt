@@ -1,19 +1,18 @@
 -- A work written as words and read back is the same work: the two words of a number give it back, a part of the row is its field, and bytes
 -- packed four to a word are unpacked. It is true of every work within the types of its fields. Assumes nothing.
-use Prim.Native.Nat.{ℕ, _+_, _-_, _*_, _/_, _%_, _≤_, _<_}
+use Prim.Native.Nat.{ℕ, _+_, _-_, _/_, _%_, _≤_, _<_}
 use mathlib.Core.Path.{_≡_, refl, sym, ap, _∙_}
 use mathlib.Core.List.{List}
 use native.Mathlib.Omega.{arith}
-use native.Mathlib.Nat.{zero-add}
 use lib.ListN.{length, getD}
 use Rattle.layout.specs.Sizes.{registerWords, nodeWords, answerMax}
-use Rattle.layout.specs.Words.{part, byteOf, wordsAt, bytesIn}
+use Rattle.layout.specs.Words.{part, byteOf, wordsAt}
 use Rattle.layout.proofs.Tab.{tab-is}
 use Rattle.layout.proofs.Packing.{length-words, getD-bytes, bytes-words}
 use Rattle.work.specs.declared.Kind.{Kind}
 use Rattle.work.specs.declared.Kind.the-variants.{Nothing, Disabling, Stash, Update, ColdBoot}
 use Rattle.work.specs.declared.Work.{Work}
-use Rattle.flat.specs.Flat.{registerIn, journeyIn, nodeIn, secretIn, answerIn, answerWords, workSize, lowOf, highOf, joinedOf, kindNumber, firstIndex, secondIndex, headOf, rowOf, workWords, kindOf, positionOf, answerOf, workOf}
+use Rattle.flat.specs.Flat.{registerIn, journeyIn, nodeIn, secretIn, answerIn, answerWords, lowOf, highOf, joinedOf, kindNumber, firstIndex, secondIndex, headOf, rowOf, workWords, kindOf, positionOf, answerOf, workOf}
 use Rattle.flat.proofs.Rows.{row-register, row-journey, row-node, row-secret, row-answer}
 
 pub joined-back : (n : ℕ) → joinedOf (lowOf n) (highOf n) ≡ n

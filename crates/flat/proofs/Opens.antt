@@ -1,7 +1,7 @@
 -- An opening into lent words, by its status: words of another length stay, and so do the words of a refusal; a ready opening leaves its work.
 -- The same of a boot, with its outcome. Each field computes once the length and the status are known. Assumes nothing.
 use Prim.Native.Nat.{ℕ}
-use mathlib.Core.Path.{_≡_, refl}
+use mathlib.Core.Path.{_≡_}
 use mathlib.Core.List.{List}
 use lib.ListN.{length}
 use borrow.Author.Tests.{eq-eqb, ne-eqb}

@@ -1,8 +1,8 @@
 -- A store through the words is the store of the work that they are. What a store reads are the parts of that work (`parts`), so number and
 -- image are its store's; the words afterwards differ in the position's two words alone, and are the work that the store hands back
 -- (`store-step`): a work with a store left is of a known kind, whose position is the words' own. Assumes nothing.
-use Prim.Native.Nat.{ℕ, _+_, _-_, _*_, _/_, _%_, _≤_, _<_}
-use mathlib.Core.Path.{_≡_, refl, sym, ap, ap₂, _∙_}
+use Prim.Native.Nat.{ℕ, _+_, _-_, _/_, _%_, _≤_, _<_}
+use mathlib.Core.Path.{_≡_, refl, sym, ap, _∙_}
 use mathlib.Core.Bool.{Bool, true, false, cond}
 use mathlib.Core.List.{List}
 use native.Mathlib.Omega.{arith}
@@ -10,7 +10,7 @@ use native.Mathlib.Decide.{decLt}
 use lib.Dec.{ltb, eqb}
 use lib.ListN.{length, getD, set, take, drop, length-set}
 use lib.Seq.{getD-set-same, getD-set-other}
-use borrow.Author.Tests.{eq-eqb, ne-eqb, lt-ltb, le-ltb, ltb-true, eqb-true, eqb-false}
+use borrow.Author.Tests.{eq-eqb, ne-eqb, lt-ltb, ltb-true, eqb-true, eqb-false}
 use Rattle.layout.specs.Sizes.{registerWords, nodeWords, answerMax, imageWords}
 use Rattle.layout.specs.Words.{part, byteOf}
 use Rattle.layout.proofs.Tab.{tab-is, getD-tab, length-tab}
@@ -23,9 +23,9 @@ use Rattle.work.specs.Table.{numberOf}
 use Rattle.work.specs.Entries.{leftOf, moved, storeNumber, storeResult, storeImage}
 use Rattle.work.specs.Parts.{storing}
 use Rattle.work.proofs.Numbers.{number-nothing}
-use Rattle.work.proofs.Shape.{left-position, left-below}
+use Rattle.work.proofs.Shape.{left-position}
 use Rattle.work.proofs.Parts.{storingOf, number-storing, image-storing}
-use Rattle.flat.specs.Flat.{registerIn, journeyIn, nodeIn, secretIn, answerIn, workSize, positionIn, lowOf, highOf, joinedOf, kindOf, positionOf, answerOf, workOf}
+use Rattle.flat.specs.Flat.{registerIn, journeyIn, nodeIn, secretIn, answerIn, workSize, positionIn, lowOf, highOf, kindOf, positionOf, answerOf, workOf}
 use Rattle.flat.specs.Forms.{storeNumberIn, withPosition, storeWords, storeHand, storeImageIn}
 use Rattle.flat.proofs.Back.{joined-back}
 

@@ -1,7 +1,7 @@
 -- The entries' C forms over a lent buffer of words. Each is the entry's own definition, of the work that the words are (Flat), and is defined
 -- for every buffer: one of another length than a work's gets a number of its own, and nothing is written. Assumes nothing.
 use Prim.Native.Nat.{ℕ, _+_}
-use mathlib.Core.Bool.{Bool, cond}
+use mathlib.Core.Bool.{cond}
 use mathlib.Core.List.{List}
 use mathlib.Core.Path.{_≡_}
 use lib.Dec.{eqb}

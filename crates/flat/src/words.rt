@@ -7,7 +7,7 @@ ghost use mathlib.Core.Path.{_≡_};
 ghost use Prim.Native.Nat.{_<_};
 ghost use lib.ListN.{length, getD};
 ghost use Rattle.layout.specs.Words.{byteOf, wordsAt};
-ghost use Rattle.flat.specs.Flat.{AllBytes, PartsLong, workSize, answerWords, lowOf, highOf, longAt, joinedOf, kindNumber, firstIndex, secondIndex, headOf, rowOf, workWords, kindOf, positionOf, answerOf, workOf};
+ghost use Rattle.flat.specs.Flat.{AllBytes, PartsLong, workSize, answerWords, lowOf, highOf, joinedOf, kindNumber, firstIndex, secondIndex, headOf, rowOf, workWords, kindOf, positionOf, answerOf, workOf};
 use layout::ANSWER_MAX;
 use layout::NODE_WORDS;
 use layout::REGISTER_WORDS;

@@ -1,7 +1,7 @@
 -- Demand 3: every list of calls and power cuts. A cold boot's stores make the first Ground (`cold-start`); by Sim machine and ledger stay in step; what
 -- Ground says of the image is the promise, and once it is shut no store opens it (`shut-run`). Assumes nothing.
 use mathlib.Core.Path.{_≡_, refl, sym, ap, _∙_, subst}
-use Prim.Native.Nat.{ℕ, suc, _+_, _-_, _*_, _<_, zero-le}
+use Prim.Native.Nat.{ℕ, suc, _+_, _-_, _*_}
 use native.Mathlib.Omega.{arith}
 use mathlib.Core.Bool.{Bool, true, false, cond, not, _||_, true≢false, false≢true}
 use mathlib.Core.List.{List, [], _∷_, _++_}
@@ -9,37 +9,35 @@ use mathlib.Core.Option.{Option, none, some}
 use lib.Dec.{eqb, ltb}
 use borrow.Author.Tests.{eqb-true}
 use lib.ListN.{length, getD, set, take, drop}
-use Rattle.layout.specs.Sizes.{imageWords, markAt, attestationAt, secretAt, registersAt, nodesAt, registerCount, registerWords, answerMax}
+use Rattle.layout.specs.Sizes.{imageWords, markAt, attestationAt, secretAt, registersAt, nodesAt, registerCount, registerWords}
 use Rattle.layout.specs.Words.{words48, part}
 use Rattle.layout.specs.Refusals as number
 use Rattle.layout.proofs.Cases.{and-right}
-use Rattle.tree.specs.Nodes.{treeIn}
 use Rattle.work.specs.Table.{put, numberOf, indexOk, putOf}
-use Rattle.work.specs.Entries.{wellShaped, leftOf, moved, storeResult, storeImage, allStores}
+use Rattle.work.specs.Entries.{wellShaped, leftOf, allStores}
 use Rattle.work.specs.Made.{workWith}
 use Rattle.work.specs.declared.Put.{Put}
 use Rattle.work.specs.declared.Work.{Work}
-use Rattle.work.proofs.Plans.{apply, length-apply, put-plan}
+use Rattle.work.proofs.Plans.{length-apply, put-plan}
 use Rattle.work.proofs.After.{store-made, store-refused, all-made}
 use Rattle.opening.specs.Tasks.{BootInputs, Task, coldBoot, Ruling, refused, accepted}
 use Rattle.opening.specs.Rules.{inputsOk}
-use Rattle.opening.specs.Works.{factsOf, workAt}
+use Rattle.opening.specs.Works.{workAt}
 use Rattle.opening.specs.Openings.{bootedOf, openColdBoot, openRequest, openUpdateBoot, bootNumber, storedBy, coldBooted}
 use Rattle.opening.specs.declared.Status.{Status}
 use Rattle.opening.specs.declared.Status.the-variants as status
 use Rattle.opening.specs.declared.BootStatus.{BootStatus}
 use Rattle.opening.specs.declared.BootStatus.the-variants as bootStatus
-use Rattle.opening.specs.declared.Booted.{Booted}
 use Rattle.history.specs.Calls.{Call, request, updateBoot, store, answer, powerCut, refusal, stored, Hand, Machine, Step, afterRequest, afterBoot, afterStore, step, run, results}
-use Rattle.history.specs.Ledger.{State, treeAt, Job, Ledger, blank, next, stateOf, chainOf, registerRows, nodeRows, imageOf, any, disables, isDisableCommand, isOff, tears, viewOf, letGo, ledgerRequest, ledgerBoot, updateRuling, ledgerStore, ledgerStep, ledgerRun, ledgerResults, firstLedger}
+use Rattle.history.specs.Ledger.{State, treeAt, Job, Ledger, blank, next, stateOf, registerRows, nodeRows, imageOf, any, disables, isDisableCommand, tears, viewOf, letGo, ledgerRequest, ledgerBoot, updateRuling, ledgerStore, ledgerStep, ledgerRun, ledgerResults, firstLedger}
 use Rattle.history.specs.Demand.{Shut, wasAccepted, bootEnded, endsBoot, AsCounted, Kept, isUnderWay, Holds, afterColdBoot, Demand3}
 use Rattle.history.proofs.Encoded.{mark-read, attestation-read, secret-read}
 use Rattle.history.proofs.Good.{Good, good-cold}
 use Rattle.history.proofs.Stores.{registers-part, nodes-part}
 use Rattle.history.proofs.Runs.{planAt, offPlan, shut-store, counted, run-cold}
 use Rattle.history.proofs.Laws.{laws}
-use Rattle.history.proofs.Ground.{Ground, sound, locked, broken, attestationWord, imageAfter, Fits, storesAt, ground-length, ruling}
-use Rattle.history.proofs.Sim.{release, Carried, carried-left, Underway, Inv, empty, done, going, Related, sim, sim-run}
+use Rattle.history.proofs.Ground.{Ground, sound, locked, broken, attestationWord, imageAfter, ground-length, ruling}
+use Rattle.history.proofs.Sim.{release, carried-left, Inv, empty, done, going, Related, sim, sim-run}
 
 -- ---- between works the image keeps the promise
 

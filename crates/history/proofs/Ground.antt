@@ -5,9 +5,8 @@ use mathlib.Core.Logic.{_⊎_, inl, inr}
 use Prim.Native.Nat.{ℕ, _≤_, _<_, zero-le}
 use native.Mathlib.Nat.{not-suc-le-zero}
 use native.Mathlib.Omega.{arith}
-use mathlib.Core.Bool.{Bool, true, false, cond, not, _&&_, _||_, or-false, or-true, true≢false, false≢true}
+use mathlib.Core.Bool.{Bool, true, false, cond, not, _&&_, _||_, or-false, true≢false, false≢true}
 use mathlib.Core.List.{List, [], _∷_, _++_, foldl-append}
-use mathlib.Core.Option.{Option, none, some}
 use lib.Dec.{eqb, leb}
 use borrow.Author.Tests.{leb-false}
 use lib.ListN.{length, getD, take, drop, length-take}
@@ -17,15 +16,12 @@ use Rattle.layout.specs.Refusals.{unfinished, unknownCode}
 use Rattle.tree.specs.Tree.{Tree, wellFormed, lowestFree}
 use Rattle.tree.specs.Nodes.{treeIn}
 use Rattle.work.specs.Table.{numberOf, indexOk}
-use Rattle.work.specs.Made.{workWith}
-use Rattle.work.specs.declared.Kind.{Kind}
 use Rattle.work.specs.declared.Put.{Put}
 use Rattle.work.proofs.Plans.{apply, length-apply}
-use Rattle.opening.specs.Tasks.{Request, BootInputs, Task, noStores, keptBoot, disableCommand, disablingBoot, stash, update, Ruling, refused, accepted, View}
+use Rattle.opening.specs.Tasks.{Request, BootInputs, Task, noStores, disableCommand, update, Ruling, refused, accepted, View}
 use Rattle.opening.specs.Rules.{Verdict, refuse, decline, Rule, refuses, judged, decide, Command, stashMeasurement, disableAttestation, identityKey, verifySignature, unknownCommand, commandOf, stashCode, disableCode, identityCode, verifyCode, answerOf, declined, served, commandRules, requestRules, requestRuling, updateTask}
-use Rattle.opening.specs.Works.{factsOf, workAt}
+use Rattle.opening.specs.Works.{factsOf}
 use Rattle.opening.specs.Openings.{viewIn, intact}
-use Rattle.opening.specs.declared.Outcome.{Outcome}
 use Rattle.history.specs.Ledger.{Chain, State, treeAt, next, blank, stateOf, imageOf, any, disables, isNone, isDisableCommand, isOff, viewOf}
 use Rattle.history.specs.Demand.{Shut}
 use Rattle.history.proofs.Encoded.{length-image, mark-read, attestation-read}

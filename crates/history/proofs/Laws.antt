@@ -2,12 +2,11 @@
 use mathlib.Core.Path.{_≡_, refl, ap, _∙_}
 use Prim.Native.Nat.{ℕ, _<_}
 use native.Mathlib.Nat.{not-suc-le-zero}
-use mathlib.Core.Bool.{true, false, cond, _&&_, false≢true}
+use mathlib.Core.Bool.{true, false, cond, false≢true}
 use mathlib.Core.List.{List}
-use lib.Dec.{ltb}
 use borrow.Author.Tests.{lt-ltb}
 use Rattle.layout.specs.Sizes.{nodeCount}
-use Rattle.tree.specs.Tree.{Tree, lowestFree}
+use Rattle.tree.specs.Tree.{lowestFree}
 use Rattle.work.specs.Table.{numberOf, indexOk}
 use Rattle.work.specs.declared.Put.{Put}
 use Rattle.work.proofs.Plans.{apply}

@@ -14,8 +14,8 @@ use Rattle.layout.proofs.Blocks.{sets-whole}
 use Rattle.layout.proofs.Tab.{length-zeros, getD-zeros}
 use Rattle.sha384.specs.Entries.{extended}
 use Rattle.tree.specs.Nodes.{treeIn, cumulativeIn}
-use Rattle.tree.specs.Tree.{Tree, defaultWords, rootIn, nodeWith, lowestFree}
-use Rattle.tree.specs.Record.{Node, retiredHandle, handleRow, nodeRow, placeRow, measurementsRow, withHandle, withCurrent, withCumulative}
+use Rattle.tree.specs.Tree.{defaultWords, rootIn, nodeWith, lowestFree}
+use Rattle.tree.specs.Record.{Node, retiredHandle, nodeRow, placeRow, measurementsRow, withHandle, withCurrent, withCumulative}
 use Rattle.tree.proofs.Rows.{length48, length-row, store-handle, store-current, store-cumulative, retired-row, raw-current, raw-cumulative}
 use Rattle.work.specs.Table.{put, Run, one, fill, copy, stashRuns, disablingRuns, updateRuns, coldRuns, runsOf, numberOf}
 use Rattle.work.specs.Made.{workWith}
@@ -28,7 +28,7 @@ use Rattle.history.specs.Ledger.{Chain, State, treeAt, changed, renewed,
 use Rattle.history.specs.Demand.{Shut}
 use Rattle.history.proofs.Encoded.{register-read}
 use Rattle.history.proofs.Good.{Good, root-below, root-node, holder-below, holder-node, holder-apart, good-tree, cumulative-read}
-use Rattle.history.proofs.Stores.{withSecret, withRegister, withNode, registerSet, nodeSet, Counted, counted-register, counted-node, store-mark, store-attestation, sets-secret, sets-register, sets-node}
+use Rattle.history.proofs.Stores.{withSecret, withRegister, withNode, Counted, counted-register, counted-node, store-mark, store-attestation, sets-secret, sets-register, sets-node}
 
 -- ---- the stores of a task's work, at an image: the answer has no part in them
 

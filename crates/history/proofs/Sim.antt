@@ -1,7 +1,7 @@
 -- The machine and the ledger go together, call by call: between works the image is Ground; in the middle of one it is the Ground's image at the opening
 -- with the first k stores made. Assumes nothing.
 use mathlib.Core.Path.{_≡_, refl, sym, ap, _∙_, subst}
-use mathlib.Core.Logic.{_⊎_, inl, inr}
+use mathlib.Core.Logic.{inl, inr}
 use Prim.Native.Nat.{ℕ, zero, suc, _-_, _≤_, _<_, zero-le}
 use native.Mathlib.Nat.{zero-lt-suc, zero-add, sub-zero}
 use native.Mathlib.Decide.{ℕ-discrete, decLt}
@@ -17,20 +17,19 @@ use Rattle.layout.specs.Sizes.{imageWords, markAt, answerMax}
 use Rattle.layout.specs.Words.{zeros}
 use Rattle.layout.specs.Refusals as number
 use Rattle.work.specs.Table.{put, runsOf, numberOf, indexOk, putOf}
-use Rattle.work.specs.Entries.{wellShaped, finished, leftOf, moved, storeResult, storeImage, answerNumber, answerResult, answerBuffer}
+use Rattle.work.specs.Entries.{wellShaped, finished, leftOf, moved, answerNumber, answerResult, answerBuffer}
 use Rattle.work.specs.Made.{workWith}
 use Rattle.work.specs.declared.Put.{Put}
 use Rattle.work.specs.declared.Work.{Work}
 use Rattle.work.specs.declared.Stored.{Stored}
-use Rattle.work.specs.declared.Answered.{Answered}
 use Rattle.work.proofs.Plans.{apply, length-apply, plan, put-plan, one-more, mark-mid}
 use Rattle.work.proofs.After.{store-made, store-refused}
 use Rattle.opening.specs.Tasks.{Request, BootInputs, Task, Ruling, refused, accepted}
-use Rattle.opening.specs.Rules.{decide, requestRules, requestRuling, bootRules, bootRuling, updateTask}
+use Rattle.opening.specs.Rules.{bootRules, bootRuling, updateTask}
 use Rattle.opening.specs.Works.{factsOf, workAt}
 use Rattle.opening.specs.Openings.{openedOf, bootedOf, viewIn, openRequest, intact, openUpdateBoot, outcomeOf, outcomeNumber}
 use Rattle.history.specs.Calls.{Call, request, updateBoot, store, answer, powerCut, kindName, Result, refusal, opened, booted, stored, answered, Hand, Machine, Step, afterRequest, afterBoot, afterStore, answerTaken, step, run}
-use Rattle.history.specs.Ledger.{Chain, treeAt, stateOf, chainOf, Job, jobAt, Ledger, viewOf, tears, letGo, ledgerRequest, ledgerBoot, updateRuling, ledgerStore, ledgerAnswer, ledgerStep, ledgerRun}
+use Rattle.history.specs.Ledger.{treeAt, stateOf, Job, jobAt, Ledger, viewOf, tears, letGo, ledgerRequest, ledgerBoot, updateRuling, ledgerStore, ledgerAnswer, ledgerStep, ledgerRun}
 use Rattle.history.proofs.Runs.{planAt, plan-answer, length-at}
 use Rattle.history.proofs.Ground.{Ground, broken, Fits, storesAt, isBoot, FitsRuling, decided, ground-length, finish, ruling, rule-same, fits-rule, intact-same, fits-boot, calm, kind-same, index-ok}
 

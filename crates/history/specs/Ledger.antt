@@ -14,7 +14,7 @@ use Rattle.tree.specs.Tree.{Tree, defaultWords, rootIn, nodeWith, lowestFree}
 use Rattle.tree.specs.Record.{Node, retiredHandle, placeRow, withHandle, withCurrent, withCumulative, treeOf}
 use Rattle.work.specs.Table.{numberOf}
 use Rattle.opening.specs.Values.{measured, childNode, rootNode}
-use Rattle.opening.specs.Tasks.{Request, BootInputs, Task, noStores, keptBoot, disableCommand, disablingBoot, stash, update, coldBoot, Ruling, refused, accepted, View}
+use Rattle.opening.specs.Tasks.{BootInputs, Task, noStores, keptBoot, disableCommand, disablingBoot, stash, update, coldBoot, Ruling, refused, accepted, View}
 use Rattle.opening.specs.Rules.{requestRules, requestRuling, bootRules, bootRuling, updateTask}
 use Rattle.opening.specs.Works.{factsOf}
 use Rattle.opening.specs.Openings.{outcomeOf, outcomeNumber}

@@ -13,7 +13,7 @@ use Rattle.tree.specs.Nodes.{word, treeIn}
 use Rattle.work.specs.Entries.{allStores}
 use Rattle.work.specs.Made.{refusedWork}
 use Rattle.work.specs.declared.Work.{Work}
-use Rattle.opening.specs.Tasks.{Request, BootInputs, Task, coldBoot, Ruling, refused, accepted, View}
+use Rattle.opening.specs.Tasks.{Request, BootInputs, coldBoot, Ruling, refused, accepted, View}
 use Rattle.opening.specs.Rules.{Rule, refuses, requestRules, requestRuling, bootRules, bootRuling, updateTask}
 use Rattle.opening.specs.Works.{factsOf, workAt}
 use Rattle.opening.specs.declared.Status.{Status}

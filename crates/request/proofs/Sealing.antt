@@ -1,11 +1,11 @@
 -- An answer in its buffer: the rest is copied behind eight zero bytes, and the checksum goes to the front. Assumes nothing.
 use Prim.Native.Nat.{ℕ, _+_, _-_, _≤_}
-use mathlib.Core.Path.{_≡_, refl, sym, ap, ap₂, _∙_}
+use mathlib.Core.Path.{_≡_, sym, ap, ap₂, _∙_}
 use mathlib.Core.List.{List, [], _++_, append-nil}
 use native.Mathlib.Omega.{arith}
 use lib.ListN.{length, take, drop, replicate, length-append, length-replicate, replicate-append-replicate}
 use lib.Seq.{take-all, take-at, drop-at}
-use borrow.Rule.Slice.PartMut.{midOf, postOf, putMid}
+use borrow.Rule.Slice.PartMut.{midOf, putMid}
 use Rattle.layout.specs.Sizes.{answerMax}
 use Rattle.layout.specs.Words.{bytes4, zeros}
 use Rattle.message.specs.Checksum.{checksumOf}

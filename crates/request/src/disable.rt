@@ -2,7 +2,6 @@
 ghost use mathlib.Core.Path.{_≡_};
 ghost use mathlib.Core.Bool.{false};
 ghost use mathlib.Core.List.{[]};
-ghost use Prim.Native.Nat.{_≤_};
 ghost use Rattle.opening.specs.Tasks.{requestOf};
 ghost use Rattle.opening.specs.Rules.{disableAttestation, disableCode};
 ghost use Rattle.request.specs.Screen.{commandOpened};

@@ -1,7 +1,6 @@
 // Identity key: X and Y from the handoff table; nothing is stored.
 ghost use mathlib.Core.Path.{_≡_};
 ghost use mathlib.Core.Bool.{false};
-ghost use mathlib.Core.List.{[]};
 ghost use Rattle.opening.specs.Tasks.{requestOf};
 ghost use Rattle.opening.specs.Rules.{handoffOk, identityKey, identityCode};
 ghost use Rattle.request.specs.Screen.{commandOpened};

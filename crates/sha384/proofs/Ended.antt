@@ -1,10 +1,10 @@
 -- The blocks that end a padded message. Assumes nothing.
 use mathlib.Core.Path.{_≡_, refl, sym, ap, ap₂, _∙_}
-use mathlib.Core.List.{List, [], _∷_, _++_, append-assoc}
-use Prim.Native.Nat.{ℕ, zero, suc, _+_, _-_, _*_, _/_, _%_, _^_, _≤_, _<_}
+use mathlib.Core.List.{List, _∷_, _++_, append-assoc}
+use Prim.Native.Nat.{ℕ, suc, _+_, _-_, _*_, _/_, _%_, _^_, _≤_, _<_}
 use native.Mathlib.Omega.{arith}
 use lib.ListN.{length, take, drop, set, replicate, length-append, length-replicate, replicate-append-replicate}
-use lib.Seq.{sets, sets-eq, take-all, take-at, drop-at, set-at, length-take-le}
+use lib.Seq.{sets, sets-eq, take-all, take-at, drop-at, set-at}
 use Rattle.sha384.specs.Sha384.{bytesOf, padding, padded}
 
 abbrev zeros : ℕ → List ℕ

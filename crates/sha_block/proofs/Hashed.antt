@@ -7,7 +7,7 @@ use native.Mathlib.Numerals.{add-one}
 use native.Mathlib.Omega.{arith}
 use lib.ListN.{length, getD, List·getD-append}
 use lib.Seq.{getD-append-add}
-use Rattle.sha_block.specs.Blocks.{wordOf, wordAt, wordsAt, blockOf, hashed}
+use Rattle.sha_block.specs.Blocks.{wordAt, wordsAt, blockOf, hashed}
 use Rattle.sha_block.specs.declared.state.State.{State}
 
 -- one block more

@@ -1,6 +1,6 @@
 -- Ways to the root, over any number n of places: where the parents lead to the root at all, they do so in at most n - 1 steps, since a way that needs
 -- s steps passes s + 1 nodes. Assumes nothing.
-use mathlib.Core.Path.{_≡_, refl, sym, ap, _∙_}
+use mathlib.Core.Path.{_≡_, refl, sym, _∙_}
 use mathlib.Core.Logic.{_⊎_, inl, inr}
 use Prim.Native.Nat.{ℕ, zero, suc, _+_, _-_, _≤_, _<_}
 use native.Mathlib.Omega.{arith}

@@ -1,11 +1,11 @@
 -- A node as a record, its words in the image (document 01, "Node words"), and what the rules see of it. Assumes nothing.
 use Prim.Native.Nat.{ℕ, _+_, _*_, _^_}
-use mathlib.Core.Bool.{Bool, true, false}
-use mathlib.Core.List.{List, [], _∷_, _++_}
+use mathlib.Core.Bool.{true, false}
+use mathlib.Core.List.{List, [], _∷_}
 use mathlib.Core.Option.{Option, none, some}
 use lib.ListN.{getD, replicate}
 use Rattle.layout.specs.Sizes.{nodeWords, handleWords}
-use Rattle.layout.specs.Words.{le32, words48, wordsAt, zeros, flat}
+use Rattle.layout.specs.Words.{words48, wordsAt, zeros, flat}
 use Rattle.tree.specs.Tree.{Place, freePlace, Tree}
 
 -- "Handle of 20 zero bytes: the default context. Handle of 20 bytes 0xFF: retired."

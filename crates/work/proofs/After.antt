@@ -3,7 +3,7 @@ use Prim.Native.Nat.{ℕ, zero, suc, _+_, _-_, _≤_, _<_}
 use mathlib.Core.Path.{_≡_, refl, sym, ap, _∙_}
 use mathlib.Core.Bool.{Bool, true, false, cond}
 use mathlib.Core.List.{List, [], _∷_}
-use native.Mathlib.Nat.{le-of-suc-le-suc, not-suc-le-zero, add-zero}
+use native.Mathlib.Nat.{le-of-suc-le-suc, not-suc-le-zero}
 use native.Mathlib.Omega.{arith}
 use lib.Dec.{eqb}
 use lib.ListN.{length, getD, set, drop, length-set}
@@ -14,7 +14,7 @@ use Rattle.work.specs.declared.Work.{Work}
 use Rattle.work.specs.declared.Put.{Put}
 use Rattle.work.specs.declared.Stored.{Stored}
 use Rattle.work.specs.Table.{put, runsOf, numberOf, putOf}
-use Rattle.work.specs.Entries.{wellShaped, leftOf, moved, storeNumber, storeResult, storeImage, finished, After, afterStores, allStores}
+use Rattle.work.specs.Entries.{wellShaped, leftOf, moved, storeNumber, storeResult, storeImage, finished, afterStores, allStores}
 use Rattle.work.proofs.Shape.{shaped-index, shaped-answer, shaped-position, left-position}
 use Rattle.work.proofs.Plans.{apply, plan, length-plan, put-plan}
 

@@ -1,7 +1,7 @@
 -- One store by its number. The code of a store has one exit for all its answers: it moves the position on by 1 where the number is 0, by 0
 -- otherwise. Three laws join that with the definitions, each by cases on whether the number is 0: `allowed`, what a number 0 says of work and
 -- image; `step-fits`, the moved position is a usize; `step-result`, number and moved work are `storeResult`. Assumes nothing.
-use mathlib.Core.Path.{_≡_, refl, sym, ap, ap₂, _∙_}
+use mathlib.Core.Path.{_≡_, refl, ap, ap₂, _∙_}
 use mathlib.Core.Bool.{Bool, true, false, cond}
 use mathlib.Core.List.{List}
 use Prim.Native.Nat.{ℕ, _+_, _<_, _^_}

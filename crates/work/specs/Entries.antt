@@ -10,7 +10,6 @@ use Rattle.layout.specs.Sizes.{imageWords, answerMax}
 use Rattle.layout.specs.Refusals.{wrongImage, storesLeft, shortBuffer, noStoreLeft}
 use Rattle.work.specs.Table.{numberOf, putOf, indexOk}
 use Rattle.work.specs.declared.Work.{Work}
-use Rattle.work.specs.declared.Put.{Put}
 use Rattle.work.specs.declared.Stored.{Stored}
 use Rattle.work.specs.declared.Answered.{Answered}
 

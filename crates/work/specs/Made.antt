@@ -1,6 +1,6 @@
 -- Works as an opening makes them (document 01: "The work carries the values it will store, its position and its prepared answer"). Assumes nothing.
 use Prim.Native.Nat.{ℕ, _-_}
-use mathlib.Core.List.{List, [], _++_}
+use mathlib.Core.List.{List, _++_}
 use lib.ListN.{length}
 use Rattle.layout.specs.Sizes.{nodeWords, registerWords, answerMax}
 use Rattle.layout.specs.Words.{zeros}

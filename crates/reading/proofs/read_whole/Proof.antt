@@ -1,6 +1,5 @@
 -- Each turn reads into the rest of the buffer, which keeps its length; what was read so far stays
 -- within it.
-use native.Mathlib.Omega.{arith}
 use borrow.Author.Needs.{needs}
 use Prim.Native.Nat.{_≤_, _-_}
 use mathlib.Core.Path.{_≡_}

@@ -1,5 +1,4 @@
 -- Each exit is one case of the order.
-use mathlib.Core.Path.{_≡_}
 use lib.ListN.{length}
 use borrow.Author.Tests.{eq-eqb, ne-eqb}
 use Rattle.layout.specs.Sizes.{imageWords}

@@ -1,6 +1,6 @@
 -- The three tests, in their order.
 use Rattle.layout.proofs.Cases.{cases}
-use borrow.Author.Tests.{eq-eqb, ne-eqb}
+use borrow.Author.Tests.{eq-eqb}
 use lib.ListN.{length}
 use Rattle.opening.specs.Rules.{inputsOk}
 use borrow.Author.Needs.{needs}

@@ -1,5 +1,4 @@
 -- The four tests, in their order.
-use mathlib.Core.Path.{_≡_}
 use lib.ListN.{getD}
 use borrow.Author.Tests.{eq-eqb, ne-eqb}
 use Rattle.layout.proofs.Cases.{told-no, told-yes}

@@ -1,10 +1,8 @@
 -- Each exit is one case of the order, then of the task.
-use mathlib.Core.Path.{_≡_}
 use lib.ListN.{length}
 use borrow.Author.Tests.{eq-eqb, ne-eqb, not-true, not-false}
 use Rattle.layout.specs.Sizes.{imageWords}
 use Rattle.layout.proofs.Cases.{told-no, told-yes}
-use Rattle.work.specs.Made.{workWith}
 use Rattle.opening.specs.Tasks.{bootOf}
 use Rattle.opening.specs.Works.{workAt}
 use Rattle.opening.specs.Openings.{openUpdateBoot}

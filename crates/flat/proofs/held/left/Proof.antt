@@ -1,6 +1,5 @@
 -- `left` meets its contract: what is left of the parts is left of the work that the words are. Assumes nothing.
 use native.Mathlib.Omega.{arith}
-use mathlib.Core.Path.{_∙_}
 use lib.ListN.{length}
 use borrow.Author.Tests.{eq-eqb, ne-eqb}
 use Rattle.work.proofs.Parts.{left-standing}

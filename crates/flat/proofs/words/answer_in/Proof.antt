@@ -1,12 +1,12 @@
 -- `answer_in` meets its contract. The invariant: the first k bytes are those of the words. Assumes nothing.
 use borrow.Author.Needs.{needs}
 use native.Mathlib.Omega.{arith}
-use Prim.Native.Nat.{ℕ, _+_, _-_, _*_, _/_, _%_, _≤_}
-use mathlib.Core.Path.{_≡_, refl, sym, ap, _∙_}
+use Prim.Native.Nat.{ℕ, _+_, _-_, _/_, _%_, _≤_}
+use mathlib.Core.Path.{_≡_, ap, _∙_}
 use lib.ListN.{length, take, getD, length-set}
-use Rattle.layout.specs.Sizes.{nodeWords, answerMax}
-use Rattle.layout.specs.Words.{tab, part, byteOf, le32, wordsAt}
-use Rattle.layout.proofs.Tab.{tab-none, tab-more, tab-full, tab-is}
+use Rattle.layout.specs.Sizes.{answerMax}
+use Rattle.layout.specs.Words.{tab, byteOf}
+use Rattle.layout.proofs.Tab.{tab-none, tab-more, tab-full}
 use Rattle.flat.specs.Flat.{answerIn, answerOf}
 use Rattle.flat.proofs.words.answer_in.Statement.{statement}
 use Rattle.flat.proofs.words.answer_in.Tie as tie

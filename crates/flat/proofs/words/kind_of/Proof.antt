@@ -1,6 +1,5 @@
 -- `kind_of` meets its contract: a return for each test. Assumes nothing.
-use borrow.Author.Needs.{needs}
-use Rattle.layout.proofs.Cases.{cases, told}
+use Rattle.layout.proofs.Cases.{cases}
 use Rattle.flat.specs.Flat.{kindOf}
 use Rattle.flat.proofs.words.kind_of.Statement.{statement}
 use Rattle.flat.proofs.words.kind_of.Tie as tie

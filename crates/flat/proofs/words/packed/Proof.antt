@@ -1,12 +1,11 @@
 -- `packed` meets its contract. The invariant: the first k words are those of the bytes. Assumes nothing.
 use borrow.Author.Needs.{needs}
 use native.Mathlib.Omega.{arith}
-use Prim.Native.Nat.{ℕ, _+_, _-_, _*_, _/_, _%_, _≤_}
-use mathlib.Core.Path.{_≡_, refl, sym, ap, _∙_}
-use lib.ListN.{length, take, getD, length-set}
-use Rattle.layout.specs.Sizes.{nodeWords, answerMax}
-use Rattle.layout.specs.Words.{tab, part, byteOf, le32, wordsAt}
-use Rattle.layout.proofs.Tab.{tab-none, tab-more, tab-full, tab-is}
+use Prim.Native.Nat.{_+_, _-_, _*_, _≤_}
+use mathlib.Core.Path.{_≡_, ap, _∙_}
+use lib.ListN.{length, take, length-set}
+use Rattle.layout.specs.Words.{tab, le32, wordsAt}
+use Rattle.layout.proofs.Tab.{tab-none, tab-more, tab-full}
 use Rattle.flat.specs.Flat.{answerWords}
 use Rattle.flat.proofs.words.packed.Statement.{statement}
 use Rattle.flat.proofs.words.packed.Tie as tie

@@ -1,6 +1,5 @@
 -- `position_of` meets its contract: a return for each outcome of the test. Assumes nothing.
-use borrow.Author.Needs.{needs}
-use Rattle.layout.proofs.Cases.{cases, told}
+use Rattle.layout.proofs.Cases.{cases}
 use Rattle.flat.specs.Flat.{positionOf}
 use Rattle.flat.proofs.words.position_of.Statement.{statement}
 use Rattle.flat.proofs.words.position_of.Tie as tie

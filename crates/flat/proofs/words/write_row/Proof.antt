@@ -1,9 +1,8 @@
 -- `write_row` meets its contract. The invariant: the first k words are the row's. Assumes nothing.
 use borrow.Author.Needs.{needs}
 use native.Mathlib.Omega.{arith}
-use Prim.Native.Nat.{ℕ, _+_, _-_, _≤_}
-use mathlib.Core.Path.{_≡_, refl, sym, ap, _∙_}
-use mathlib.Core.List.{List}
+use Prim.Native.Nat.{_-_, _≤_}
+use mathlib.Core.Path.{_≡_}
 use lib.ListN.{length, take, getD, length-set}
 use Rattle.layout.specs.Words.{tab}
 use Rattle.layout.proofs.Tab.{tab-none, tab-more}

@@ -1,8 +1,8 @@
 use native.Mathlib.Omega.{arith}
 use borrow.Author.Needs.{needs}
-use Prim.Native.Nat.{ℕ, _+_, _-_, _*_, _≤_}
+use Prim.Native.Nat.{_+_, _-_, _*_, _≤_}
 use mathlib.Core.Path.{_≡_}
-use lib.ListN.{length, take, getD, length-set}
+use lib.ListN.{length, take, length-set}
 use Rattle.layout.specs.Sizes.{registerWords}
 use Rattle.layout.specs.Words.{tab, le32, wordsAt}
 use Rattle.layout.proofs.Tab.{tab-none, tab-more, tab-full}

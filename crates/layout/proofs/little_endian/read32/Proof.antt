@@ -1,5 +1,4 @@
 use Rattle.layout.proofs.Packing.{le32-read}
-use native.Mathlib.Omega.{arith}
 use borrow.Author.Needs.{needs}
 use Rattle.layout.proofs.little_endian.read32.Statement.{statement}
 use Rattle.layout.proofs.little_endian.read32.Tie as tie

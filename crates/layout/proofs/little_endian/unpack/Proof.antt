@@ -1,6 +1,6 @@
 use native.Mathlib.Omega.{arith}
 use borrow.Author.Needs.{needs}
-use Prim.Native.Nat.{ℕ, _+_, _-_, _*_, _/_, _%_, _≤_}
+use Prim.Native.Nat.{_-_, _*_, _/_, _%_, _≤_}
 use mathlib.Core.Path.{_≡_}
 use lib.ListN.{length, take, getD, length-set}
 use Rattle.layout.specs.Sizes.{registerWords}

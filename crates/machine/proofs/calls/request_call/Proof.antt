@@ -1,5 +1,4 @@
 -- The opening is the definition's, and its status decides both sides.
-use mathlib.Core.Path.{refl}
 use Rattle.history.specs.Calls.{step}
 use Rattle.machine.specs.Call.{machineOf, handOf, resultOf, stepOf}
 use borrow.Author.Needs.{needs}

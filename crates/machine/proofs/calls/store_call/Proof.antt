@@ -1,6 +1,5 @@
 -- Whether a work is present, and then the store's number, decide both sides.
 use borrow.Author.Tests.{not-true, not-false, eq-eqb, ne-eqb}
-use mathlib.Core.Path.{refl}
 use Rattle.history.specs.Calls.{step}
 use Rattle.machine.specs.Call.{machineOf, handOf, resultOf, stepOf}
 use borrow.Author.Needs.{needs}

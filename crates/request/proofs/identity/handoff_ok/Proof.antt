@@ -1,5 +1,5 @@
 -- The tests, in their order.
-use mathlib.Core.Path.{_≡_, _∙_}
+use mathlib.Core.Path.{_∙_}
 use borrow.Author.Tests.{eq-eqb, ne-eqb}
 use Rattle.layout.proofs.Cases.{cases, told}
 use Rattle.opening.specs.Rules.{handoffOk}

@@ -1,7 +1,6 @@
 -- The screen decides (`by-screen`); then the command's own rules.
 use mathlib.Core.Path.{sym, ap, _∙_}
 use mathlib.Core.Bool.{false}
-use mathlib.Core.List.{[]}
 use lib.Dec.{eqb}
 use lib.ListN.{length}
 use Rattle.layout.proofs.Cases.{told}

@@ -1,5 +1,5 @@
 -- The first tests are the first rules; a known code leaves its command's part of the order (`known`).
-use mathlib.Core.Path.{_≡_, refl, sym, _∙_}
+use mathlib.Core.Path.{refl, sym, _∙_}
 use lib.ListN.{length, getD}
 use borrow.Author.Tests.{eq-eqb, ne-eqb}
 use Rattle.layout.specs.Sizes.{imageWords, markAt}

@@ -1,8 +1,7 @@
-use mathlib.Core.Path.{_≡_, refl, ap, _∙_}
 use lib.ListN.{length}
 use native.Mathlib.Omega.{arith}
 use borrow.Author.Tests.{le-leb, lt-leb}
-use Rattle.sha384.specs.Sha384.{firstSix, sha384}
+use Rattle.sha384.specs.Sha384.{sha384}
 use Rattle.sha384.specs.Entries.{longest, digestOf}
 use borrow.Author.Needs.{needs}
 use Rattle.sha384.proofs.digest.digest.Statement.{statement}

@@ -1,4 +1,4 @@
-use mathlib.Core.Path.{_≡_, refl, ap, _∙_}
+use mathlib.Core.Path.{ap, _∙_}
 use Rattle.sha384.specs.Sha384.{firstSix, hashOf, sha384}
 use Rattle.sha384.specs.Entries.{extended}
 use borrow.Author.Needs.{needs}

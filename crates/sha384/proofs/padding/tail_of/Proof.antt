@@ -1,7 +1,5 @@
 use native.Mathlib.Omega.{arith}
 use Rattle.sha384.proofs.Ended.{ended}
-use lib.ListN.{length, length-set}
-use mathlib.Core.Path.{_≡_}
 use borrow.Author.Needs.{needs}
 use Rattle.sha384.proofs.padding.tail_of.Statement.{statement}
 use Rattle.sha384.proofs.padding.tail_of.Tie as tie

@@ -1,10 +1,9 @@
-use mathlib.Core.Path.{_≡_, sym, ap, _∙_}
-use Prim.Native.Nat.{ℕ, _+_}
+use mathlib.Core.Path.{sym, ap, _∙_}
+use Prim.Native.Nat.{_+_}
 use denote.Ref.{now}
 use Rattle.sha_block.specs.Rounds.{turns, sumOf}
 use Rattle.sha_block.specs.Schedule.{at, schedule}
 use Rattle.sha_block.specs.Blocks.{blockOf}
-use Rattle.sha_block.specs.declared.state.State.{State}
 use Rattle.sha_block.proofs.Turns.{turns-add}
 use borrow.Author.Needs.{needs}
 use Rattle.sha_block.proofs.blocks.compress.Statement.{statement}

@@ -1,4 +1,4 @@
-use mathlib.Core.Path.{ap, ap₂, _∙_}
+use mathlib.Core.Path.{ap₂, _∙_}
 use Prim.Native.Nat.{ℕ, _+_, _%_, _^_}
 use Rattle.sha_block.specs.Rounds.{T1}
 use Rattle.sha_block.proofs.Sums.{sum5}

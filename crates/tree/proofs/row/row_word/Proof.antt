@@ -1,8 +1,7 @@
 -- Each test picks a field; its law gives the word.
 use native.Mathlib.Omega.{arith}
-use mathlib.Core.Path.{_≡_, refl, sym, ap, _∙_}
-use Prim.Native.Nat.{ℕ, _+_, _*_, _-_, _^_}
-use mathlib.Core.List.{[], _∷_, _++_}
+use mathlib.Core.Path.{_≡_, sym, ap}
+use Prim.Native.Nat.{ℕ, _-_}
 use lib.ListN.{length, getD}
 use Rattle.layout.specs.Sizes.{registerWords, handleWords}
 use Rattle.layout.specs.Words.{zeros, flat}

@@ -1,9 +1,7 @@
 -- `store` meets its contract: a number 0 means an image of the right size and a store left (Numbered, `allowed`), so the next store may be
 -- asked for and its address is within the image; another number leaves the image, as `storeImage` does. Assumes nothing.
-use Prim.Native.Nat.{ℕ}
 use native.Mathlib.Omega.{arith}
-use mathlib.Core.Path.{_≡_, sym, _∙_}
-use mathlib.Core.List.{List}
+use mathlib.Core.Path.{sym, _∙_}
 use borrow.Author.Tests.{eq-eqb, ne-eqb}
 use Rattle.work.specs.Table.{putOf, runsOf}
 use Rattle.work.specs.Entries.{storeNumber, storeImage}

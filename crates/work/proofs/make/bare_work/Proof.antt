@@ -1,5 +1,4 @@
 -- The three callees, put together.
-use mathlib.Core.Path.{_∙_}
 use Rattle.work.specs.Made.{workWith}
 use borrow.Author.Needs.{needs}
 use Rattle.work.proofs.make.bare_work.Statement.{statement}
