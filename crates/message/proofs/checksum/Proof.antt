@@ -1,3 +1,5 @@
+-- The four digits base 256 of the code fit 32 bits; the rest is modulo 2^32 on both sides.
+
 use native.Mathlib.Omega.{arith}
 use Rattle.message.specs.Checksum.{sumOf, codeBytes, checksumOf}
 use Rattle.message.proofs.Sums.{negated}

@@ -1,3 +1,5 @@
+-- The invariant: the sum so far is that of the bytes read, modulo 2^32.
+
 use native.Mathlib.Omega.{arith}
 use borrow.Author.Needs.{needs}
 use Prim.Native.Nat.{_-_, _%_, _^_, _≤_}

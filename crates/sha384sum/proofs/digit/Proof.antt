@@ -1,3 +1,5 @@
+-- A digit below ten and one above, by computation.
+
 use borrow.Author.Tests.{lt-ltb, le-ltb}
 use Rattle.sha384sum.specs.Hex.{digitOf}
 use borrow.Author.Needs.{needs}

@@ -1,3 +1,5 @@
+-- The invariant: the first 2 i characters are the digits of the first i bytes.
+
 use native.Mathlib.Omega.{arith}
 use borrow.Author.Needs.{needs}
 use mathlib.Core.Path.{_≡_, refl, sym, ap, _∙_}

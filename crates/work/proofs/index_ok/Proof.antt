@@ -1,3 +1,5 @@
+-- One case for each kind of work.
+
 use Rattle.work.specs.Table.{indexOk}
 use Rattle.layout.proofs.Cases.{cases}
 use borrow.Author.Needs.{needs}

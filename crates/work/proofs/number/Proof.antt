@@ -1,3 +1,5 @@
+-- One case for each kind of work.
+
 use Rattle.work.specs.Table.{numberOf}
 use borrow.Author.Needs.{needs}
 use Rattle.work.proofs.number.Statement.{statement}

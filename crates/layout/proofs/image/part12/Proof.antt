@@ -1,3 +1,5 @@
+-- The invariant: the first k words of the copy are the image's, or zero past its end.
+
 use native.Mathlib.Omega.{arith}
 use borrow.Author.Needs.{needs}
 use Prim.Native.Nat.{_+_, _-_, _≤_}

@@ -1,3 +1,5 @@
+-- Past the end the definition is zero (`getD-past`); inside, the read itself.
+
 use native.Mathlib.Omega.{arith}
 use Rattle.layout.proofs.Tab.{getD-past}
 use borrow.Author.Needs.{needs}

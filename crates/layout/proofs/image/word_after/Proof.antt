@@ -1,3 +1,5 @@
+-- Both comparisons keep the sum inside the slice; past its end the definition is zero.
+
 use native.Mathlib.Omega.{arith}
 use Rattle.layout.proofs.Tab.{getD-past}
 use Prim.Native.Nat.{_+_}

@@ -1,3 +1,5 @@
+-- Inside, the read itself; past the end zero.
+
 use native.Mathlib.Omega.{arith}
 use Prim.Native.Nat.{_+_}
 use Rattle.layout.proofs.Tab.{getD-past}

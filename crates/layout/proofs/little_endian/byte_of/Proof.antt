@@ -1,3 +1,5 @@
+-- The four digits base 256, each below 256 by its remainder.
+
 use native.Mathlib.Omega.{arith}
 use mathlib.Core.Path.{_≡_}
 use borrow.Author.Needs.{needs}

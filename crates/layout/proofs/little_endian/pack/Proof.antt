@@ -1,3 +1,5 @@
+-- The invariant: the first k words are the numbers in the bytes so far.
+
 use native.Mathlib.Omega.{arith}
 use borrow.Author.Needs.{needs}
 use Prim.Native.Nat.{_+_, _-_, _*_, _≤_}

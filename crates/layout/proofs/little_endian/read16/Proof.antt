@@ -1,3 +1,5 @@
+-- Two bytes and their weights; no sum leaves its type.
+
 use Rattle.layout.proofs.Packing.{le16-read}
 use borrow.Author.Needs.{needs}
 use Rattle.layout.proofs.little_endian.read16.Statement.{statement}

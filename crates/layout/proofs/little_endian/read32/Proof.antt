@@ -1,3 +1,5 @@
+-- Four bytes and their weights; no sum leaves its type.
+
 use Rattle.layout.proofs.Packing.{le32-read}
 use borrow.Author.Needs.{needs}
 use Rattle.layout.proofs.little_endian.read32.Statement.{statement}

@@ -1,3 +1,5 @@
+-- The invariant: the first k bytes are the digits base 256 of the words so far.
+
 use native.Mathlib.Omega.{arith}
 use borrow.Author.Needs.{needs}
 use Prim.Native.Nat.{_-_, _*_, _/_, _%_, _≤_}

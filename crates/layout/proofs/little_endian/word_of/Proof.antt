@@ -1,3 +1,5 @@
+-- The four bytes at four times the index, read as one number.
+
 use native.Mathlib.Omega.{arith}
 use Rattle.layout.proofs.Packing.{le32-past}
 use Prim.Native.Nat.{_+_, _*_}

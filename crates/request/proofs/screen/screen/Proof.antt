@@ -1,3 +1,5 @@
+-- The tests in the order of the definition; each exit is one of its lines.
+
 use Rattle.layout.proofs.Cases.{cases, told}
 use Rattle.request.specs.Screen.{screenOf}
 use borrow.Author.Needs.{needs}

@@ -1,3 +1,5 @@
+-- The eight words of FIPS 180-4, section 5.3.4: by computation.
+
 use mathlib.Core.Path.{refl}
 use Rattle.sha384.specs.Constants.{initialOf}
 use Rattle.sha384.proofs.constants.initial.Statement.{statement}

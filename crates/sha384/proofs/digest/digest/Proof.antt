@@ -1,3 +1,5 @@
+-- The hash of the message, then its words as bytes.
+
 use lib.ListN.{length}
 use native.Mathlib.Omega.{arith}
 use borrow.Author.Tests.{le-leb, lt-leb}

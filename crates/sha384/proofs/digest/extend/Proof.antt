@@ -1,3 +1,5 @@
+-- The hash of the two values joined, which have a fixed length.
+
 use mathlib.Core.Path.{ap, _∙_}
 use Rattle.sha384.specs.Sha384.{firstSix, hashOf, sha384}
 use Rattle.sha384.specs.Entries.{extended}

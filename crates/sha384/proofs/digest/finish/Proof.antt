@@ -1,3 +1,5 @@
+-- Six words of eight bytes each; the buffer is written from left to right.
+
 use Rattle.sha384.proofs.Bytes.{six-words}
 use borrow.Author.Needs.{needs}
 use Rattle.sha384.proofs.digest.finish.Statement.{statement}

@@ -1,3 +1,5 @@
+-- Whole blocks of the message first, then the one or two blocks of its padded end.
+
 use native.Mathlib.Omega.{arith}
 use mathlib.Core.Path.{sym, ap, _∙_}
 use mathlib.Core.List.{List, _++_}

@@ -1,3 +1,5 @@
+-- Two copies side by side.
+
 use mathlib.Core.Path.{_≡_, refl}
 use lib.ListN.{length, replicate}
 use Rattle.sha384.proofs.Bytes.{two-halves}

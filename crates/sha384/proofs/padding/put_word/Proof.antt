@@ -1,3 +1,5 @@
+-- Eight bytes, the highest first.
+
 use native.Mathlib.Omega.{arith}
 use lib.ListN.{length-set}
 use native.Mathlib.Nat.{div-one}

@@ -1,3 +1,5 @@
+-- What is left of the message, a one bit, zeros, and the length in bits.
+
 use native.Mathlib.Omega.{arith}
 use Rattle.sha384.proofs.Ended.{ended}
 use borrow.Author.Needs.{needs}

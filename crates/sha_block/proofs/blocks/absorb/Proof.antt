@@ -1,3 +1,5 @@
+-- The invariant: the state is that after the first q blocks.
+
 use native.Mathlib.Omega.{arith}
 use borrow.Author.Needs.{needs}
 use mathlib.Core.Path.{_≡_, refl, ap, _∙_}

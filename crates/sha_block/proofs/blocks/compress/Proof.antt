@@ -1,3 +1,5 @@
+-- Sixteen rounds on the block's words, sixty-four on the ring, then the sums.
+
 use mathlib.Core.Path.{sym, ap, _∙_}
 use Prim.Native.Nat.{_+_}
 use denote.Ref.{now}

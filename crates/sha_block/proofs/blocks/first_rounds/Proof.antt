@@ -1,3 +1,5 @@
+-- The invariant: the state after the first rounds of the definition.
+
 use mathlib.Core.Path.{_≡_, refl, ap, _∙_}
 use Prim.Native.Nat.{ℕ, _-_, _≤_}
 use native.Mathlib.Omega.{arith}

@@ -1,3 +1,5 @@
+-- The invariant: the first i words of the ring are the block's.
+
 use mathlib.Core.Path.{_≡_, refl}
 use Prim.Native.Nat.{_-_, _≤_}
 use native.Mathlib.Omega.{arith}

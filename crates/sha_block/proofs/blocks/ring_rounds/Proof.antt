@@ -1,3 +1,5 @@
+-- The invariant: the ring holds the last sixteen words of the schedule.
+
 use native.Mathlib.Omega.{arith}
 use borrow.Author.Needs.{needs}
 use mathlib.Core.Path.{_≡_, refl, sym, ap, _∙_}

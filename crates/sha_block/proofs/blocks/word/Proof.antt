@@ -1,3 +1,5 @@
+-- Eight bytes and their weights; no sum leaves 64 bits.
+
 use mathlib.Core.Path.{refl}
 use Rattle.sha_block.specs.Blocks.{wordOf}
 use borrow.Author.Needs.{needs}

@@ -1,3 +1,5 @@
+-- The eight reads lie inside the slice.
+
 use Rattle.sha_block.specs.Blocks.{wordAt}
 use borrow.Author.Needs.{needs}
 use Rattle.sha_block.proofs.blocks.word_at.Statement.{statement}

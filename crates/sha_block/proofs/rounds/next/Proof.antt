@@ -1,3 +1,5 @@
+-- The four terms of the schedule's next word, by the leaves' contracts.
+
 use mathlib.Core.Path.{ap₂, _∙_}
 use Prim.Native.Nat.{ℕ, _+_, _%_, _^_}
 use Rattle.sha_block.specs.Schedule.{nextOf}

@@ -1,3 +1,5 @@
+-- The two sums of a round and the shift of the working variables.
+
 use Rattle.sha_block.specs.Rounds.{roundOf}
 use borrow.Author.Needs.{needs}
 use Rattle.sha_block.proofs.rounds.round.Statement.{statement}

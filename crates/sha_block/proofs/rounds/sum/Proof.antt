@@ -1,3 +1,5 @@
+-- Eight additions modulo 2^64.
+
 use Rattle.sha_block.specs.Rounds.{sumOf}
 use borrow.Author.Needs.{needs}
 use Rattle.sha_block.proofs.rounds.sum.Statement.{statement}

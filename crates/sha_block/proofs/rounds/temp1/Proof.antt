@@ -1,3 +1,5 @@
+-- The five terms of the first sum of a round.
+
 use mathlib.Core.Path.{ap₂, _∙_}
 use Prim.Native.Nat.{ℕ, _+_, _%_, _^_}
 use Rattle.sha_block.specs.Rounds.{T1}

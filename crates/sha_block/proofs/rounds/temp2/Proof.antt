@@ -1,3 +1,5 @@
+-- The two terms of the second sum of a round.
+
 use Rattle.sha_block.specs.Rounds.{T2}
 use borrow.Author.Needs.{needs}
 use Rattle.sha_block.proofs.rounds.temp2.Statement.{statement}
