@@ -15,7 +15,7 @@ pub const NO_WORK: u32 = 0xFFFFFFFF;
 // The most bytes of an image.
 const IMAGE_BYTES: usize = 4 * MEMORY_WORDS;
 
-// Writes bytes, and tells whether they were written; so do all that follow.
+// Writes bytes. Like all here that write, it tells whether that was done.
 pub(crate) fn put(bytes: &[u8]) -> bool {
     io::write_all(STDOUT_FILENO, bytes)
 }

@@ -1,6 +1,6 @@
 // The operations on the image and on the work in hand.
 ghost use mathlib.Core.Path.{_≡_};
-ghost use Prim.Native.Nat.{_+_, _*_, _<_, _≤_};
+ghost use Prim.Native.Nat.{_<_, _≤_};
 ghost use lib.ListN.{length};
 ghost use Rattle.driver.specs.Run.{memoryWords, Ready, Moved};
 use crate::input::read64;
