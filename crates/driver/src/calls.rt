@@ -1,54 +1,64 @@
-// The operations that are calls: openings, stores and cuts.
+// The operations that are acts of the machine: openings, stores, answers and cuts.
 ghost use mathlib.Core.Path.{_≡_};
 ghost use Prim.Native.Nat.{_<_, _≤_};
 ghost use lib.ListN.{length};
 ghost use Rattle.driver.specs.Run.{memoryWords, Ready, Moved};
+use crate::input::string_length;
 use crate::input::two_strings;
+use crate::output::NO_WORK;
+use crate::output::put;
 use crate::output::put_opening;
 use crate::output::put32;
 use crate::state::State;
 use crate::state::stopped;
-use boot::cold::open_cold_boot;
 use layout::little_endian::byte;
 use layout::little_endian::read32;
+use machine::ANSWER;
 use machine::InHand;
 use machine::Made;
+use machine::POWER_CUT;
+use machine::REQUEST;
 use machine::Report;
-use machine::call;
-use opening::BootStatus;
-use opening::works::boot_number;
+use machine::STORE;
+use machine::UPDATE_BOOT;
+use machine::make;
 
-// A call that needs no bytes: 2 a store, 3 a cut.
-fn bare_call(op: u8, image: &mut [u32], hand: InHand) -> Made {
+// The bytes of ROM's verdict: only an update boot has one.
+fn verdict_length(op: u8) -> usize
+    ensures { λ r. ⌜ r ≤ 1 ⌝ }
+{
+    if op == UPDATE_BOOT { 1 } else { 0 }
+}
+
+// The opening of a boot: a cold one does not see the verdict.
+fn boot_act(
+    op: u8,
+    image: &mut [u32],
+    hand: InHand,
+    digest: &[u8],
+    secret: &[u8],
+    verdict: bool,
+) -> Made {
     let none = [0u8; 0];
-    call(op, image, hand, 0, &none, 0, &none, false, &none, &none)
+    let mut no_buffer = [0u8; 0];
+    make(
+        op,
+        image,
+        hand,
+        0,
+        &none,
+        0,
+        &none,
+        verdict,
+        digest,
+        secret,
+        &mut no_buffer,
+    )
 }
 
-// A cold boot on an image: its work becomes the one in hand.
-fn cold_call(image: &[u32], hand: InHand, digest: &[u8], secret: &[u8]) -> Made {
-    let booted = open_cold_boot(image, digest, secret);
-    let status = booted.status;
-    let BootStatus::Ready(outcome) = status else {
-        let number = boot_number(status);
-        return Made {
-            hand,
-            report: Report::Refused(number),
-        };
-    };
-    let work = booted.work;
-    let left = work.left();
-    Made {
-        hand: InHand {
-            present: true,
-            boot: true,
-            work,
-        },
-        report: Report::Booted(outcome, left),
-    }
-}
-
-// Opens a cold boot: two byte strings, the digest and the secret.
-pub(crate) fn cold_boot(input: &[u8], memory: &mut [u32], state: State) -> State
+// Opens a boot, cold or update: two byte strings, the digest and the secret, and then ROM's verdict
+// where there is one.
+pub(crate) fn boot(op: u8, input: &[u8], memory: &mut [u32], state: State) -> State
     requires { ⌜ Ready state ⌝ }
     requires { ⌜ state .at < length (now input) ⌝ }
     requires { ⌜ length (now memory) ≡ memoryWords ⌝ }
@@ -59,64 +69,56 @@ pub(crate) fn cold_boot(input: &[u8], memory: &mut [u32], state: State) -> State
     let first = given.first;
     let middle = given.middle;
     let second = given.second;
-    let end = given.end;
+    let last = given.end;
+    let end = last + verdict_length(op);
     if input.len() < end {
         return stopped(input, state);
     }
     let hand = state.hand;
-    let made = cold_call(
-        &memory[..words],
+    let made = boot_act(
+        op,
+        &mut memory[..words],
         hand,
         &input[first..middle],
-        &input[second..end],
+        &input[second..last],
+        byte(input, last, 0) == 1,
     );
     let report = made.report;
-    put_opening(report);
+    let written = put_opening(report);
     let after = made.hand;
     State {
         at: end,
         words,
         hand: after,
+        written,
     }
 }
 
-// Opens an update boot: as a cold boot, and then ROM's verdict.
-pub(crate) fn update_boot(input: &[u8], memory: &mut [u32], state: State) -> State
-    requires { ⌜ Ready state ⌝ }
-    requires { ⌜ state .at < length (now input) ⌝ }
-    requires { ⌜ length (now memory) ≡ memoryWords ⌝ }
-    ensures { λ r. ⌜ Moved state r ⌝ }
-{
-    let words = state.words;
-    let given = two_strings(input, state.at + 1);
-    let first = given.first;
-    let middle = given.middle;
-    let second = given.second;
-    let end = given.end;
-    if input.len() <= end {
-        return stopped(input, state);
-    }
-    let hand = state.hand;
-    let made = call(
-        1,
-        &mut memory[..words],
+// The opening of a request.
+fn request_act(
+    image: &mut [u32],
+    hand: InHand,
+    code: u32,
+    bytes: &[u8],
+    caller: u32,
+    handoff: &[u8],
+    verdict: bool,
+) -> Made {
+    let none = [0u8; 0];
+    let mut no_buffer = [0u8; 0];
+    make(
+        REQUEST,
+        image,
         hand,
-        0,
-        &input[..0],
-        0,
-        &input[..0],
-        input[end] == 1,
-        &input[first..middle],
-        &input[second..end],
-    );
-    let report = made.report;
-    put_opening(report);
-    let after = made.hand;
-    State {
-        at: end + 1,
-        words,
-        hand: after,
-    }
+        code,
+        bytes,
+        caller,
+        handoff,
+        verdict,
+        &none,
+        &none,
+        &mut no_buffer,
+    )
 }
 
 // Opens a request: code, caller and verdict, then two byte strings, the handoff table and the request.
@@ -137,8 +139,7 @@ pub(crate) fn request(input: &[u8], memory: &mut [u32], state: State) -> State
         return stopped(input, state);
     }
     let hand = state.hand;
-    let made = call(
-        0,
+    let made = request_act(
         &mut memory[..words],
         hand,
         read32(input, at + 1),
@@ -146,17 +147,35 @@ pub(crate) fn request(input: &[u8], memory: &mut [u32], state: State) -> State
         read32(input, at + 5),
         &input[first..middle],
         byte(input, at, 9) == 1,
-        &input[..0],
-        &input[..0],
     );
     let report = made.report;
-    put_opening(report);
+    let written = put_opening(report);
     let after = made.hand;
     State {
         at: end,
         words,
         hand: after,
+        written,
     }
+}
+
+// An act that is given nothing: a store or a power cut.
+fn bare_act(op: u8, image: &mut [u32], hand: InHand) -> Made {
+    let none = [0u8; 0];
+    let mut no_buffer = [0u8; 0];
+    make(
+        op,
+        image,
+        hand,
+        0,
+        &none,
+        0,
+        &none,
+        false,
+        &none,
+        &none,
+        &mut no_buffer,
+    )
 }
 
 // What a run of stores came to: how many were made, the number of the refusal that ended it or 0, and
@@ -180,7 +199,7 @@ fn store_many(image: &mut [u32], hand: InHand, count: u32) -> Ran {
     let mut now_in = hand;
     let mut made = 0;
     while made < count {
-        let one = bare_call(2, image, now_in);
+        let one = bare_act(STORE, image, now_in);
         let report = one.report;
         let next = one.hand;
         let Report::Stored(_) = report else {
@@ -215,13 +234,75 @@ pub(crate) fn stores(input: &[u8], memory: &mut [u32], state: State) -> State
     }
     let hand = state.hand;
     let ran = store_many(&mut memory[..words], hand, read32(input, at + 1));
-    put32(ran.made);
-    put32(ran.number);
+    let written = put32(ran.made) && put32(ran.number);
     let after = ran.hand;
     State {
         at: end,
         words,
         hand: after,
+        written,
+    }
+}
+
+// A buffer for the longest answer that may be asked for. The `ensures` gives only the length, which
+// lending it needs.
+fn untouched() -> [u8; 65536]
+    ensures { λ r. ⌜ 65536 ≡ length r ⌝ }
+{
+    [0xA5; 65536]
+}
+
+// The answer of the work in hand into a buffer.
+fn answer_act(image: &mut [u32], hand: InHand, buffer: &mut [u8]) -> Made {
+    let none = [0u8; 0];
+    make(
+        ANSWER,
+        image,
+        hand,
+        0,
+        &none,
+        0,
+        &none,
+        false,
+        &none,
+        &none,
+        buffer,
+    )
+}
+
+// An answer's number; with no work in hand there is none.
+fn answer_number(report: Report) -> u32 {
+    match report {
+        Report::Answered(number, _) => number,
+        _ => NO_WORK,
+    }
+}
+
+// Takes the answer into a buffer of the size asked for, and writes its number and the whole buffer.
+pub(crate) fn answer(input: &[u8], memory: &mut [u32], state: State) -> State
+    requires { ⌜ Ready state ⌝ }
+    requires { ⌜ state .at < length (now input) ⌝ }
+    requires { ⌜ length (now memory) ≡ memoryWords ⌝ }
+    ensures { λ r. ⌜ Moved state r ⌝ }
+{
+    let at = state.at;
+    let words = state.words;
+    let end = at + 3;
+    if input.len() < end {
+        return stopped(input, state);
+    }
+    let size = string_length(input, at + 1);
+    let mut buffer = untouched();
+    let hand = state.hand;
+    let made = answer_act(&mut memory[..words], hand, &mut buffer[..size]);
+    let report = made.report;
+    let written = put32(answer_number(report)) && put(&buffer[..size]);
+    let after = made.hand;
+    State {
+        at: end,
+        words,
+        hand: after,
+        written,
     }
 }
 
@@ -233,11 +314,12 @@ pub(crate) fn cut(memory: &mut [u32], state: State) -> State
 {
     let words = state.words;
     let hand = state.hand;
-    let made = bare_call(3, &mut memory[..words], hand);
+    let made = bare_act(POWER_CUT, &mut memory[..words], hand);
     let after = made.hand;
     State {
         at: state.at + 1,
         words,
         hand: after,
+        written: true,
     }
 }

@@ -1,5 +1,5 @@
 // Reading an operation's arguments.
-ghost use Prim.Native.Nat.{_+_, _<_, _≤_};
+ghost use Prim.Native.Nat.{_+_, _*_, _<_, _≤_};
 use layout::little_endian::byte;
 use layout::little_endian::read32;
 
@@ -25,10 +25,12 @@ pub(crate) struct Two {
     pub end: usize,
 }
 
-// The two byte strings from an index on. They are whole where `end` is within the input.
+// The two byte strings from an index on, each after its length. They are whole where `end` is within
+// the input.
 pub(crate) fn two_strings(input: &[u8], at: usize) -> Two
     requires { ⌜ at < 2097152 ⌝ }
     ensures { λ r. ⌜ (at ≤ r .first) × (r .first ≤ r .middle) × (r .middle ≤ r .second) × (r .second ≤ r .end) ⌝ }
+    ensures { λ r. ⌜ r .end < at + 2 * 65538 ⌝ }
 {
     let first = at + 2;
     let middle = first + string_length(input, at);

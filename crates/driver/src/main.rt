@@ -4,7 +4,8 @@
 // An operation is a letter and its arguments; numbers are little endian, and a byte string stands
 // after its length (u16). The run ends at the end of the input, at an unknown letter, at an operation
 // that the input cuts short and at an image of more than 4,096 words. The input is read first: one
-// that cannot be read gets a message on standard error, and nothing is run.
+// that cannot be read gets a message on standard error, and nothing is run. Output that cannot be
+// written ends the run, with a message on standard error.
 mod calls;
 mod input;
 mod output;
@@ -22,6 +23,8 @@ use crate::state::start;
 use crate::state::stopped;
 use libc::STDERR_FILENO;
 use libc::STDIN_FILENO;
+use machine::COLD_BOOT;
+use machine::UPDATE_BOOT;
 use reading::read_whole;
 
 // One operation.
@@ -35,11 +38,11 @@ fn operation(input: &[u8], memory: &mut [u32], state: State) -> State
     let letter = input[at];
     match letter {
         b'I' => parts::lend(input, memory, state),
-        b'C' => calls::cold_boot(input, memory, state),
-        b'U' => calls::update_boot(input, memory, state),
+        b'C' => calls::boot(COLD_BOOT, input, memory, state),
+        b'U' => calls::boot(UPDATE_BOOT, input, memory, state),
         b'R' => calls::request(input, memory, state),
         b'S' => calls::stores(input, memory, state),
-        b'A' => parts::answer(input, state),
+        b'A' => calls::answer(input, memory, state),
         b'L' => parts::left(state),
         b'X' => calls::cut(memory, state),
         b'W' => parts::set(input, state),
@@ -48,16 +51,21 @@ fn operation(input: &[u8], memory: &mut [u32], state: State) -> State
     }
 }
 
-// The operations one after another, from an image of zeros.
-fn run(input: &[u8])
+// The operations one after another, from an image of zeros, until one gave something that cannot be
+// written. Tells whether all was written.
+fn run(input: &[u8]) -> bool
     requires { ⌜ length (now input) ≤ inputBytes ⌝ }
 {
     let mut memory = [0u32; MEMORY_WORDS];
     let mut state = start();
     while state.at < input.len() {
         let next = operation(input, &mut memory, state);
+        if !next.written {
+            return false;
+        }
         state = next;
     }
+    true
 }
 
 // Room for the input: of a longer one only this much is used. The `ensures` gives only the length,
@@ -68,16 +76,19 @@ fn room() -> [u8; INPUT_BYTES]
     [0; INPUT_BYTES]
 }
 
+fn complain(why: &[u8]) {
+    io::write_all(STDERR_FILENO, why);
+}
+
 fn main() {
     let mut space = room();
     let read = read_whole(STDIN_FILENO, &mut space);
     if !read.whole {
-        io::write_all(
-            STDERR_FILENO,
-            b"driver: the input cannot be read: nothing was run\n",
-        );
+        complain(b"driver: the input cannot be read: nothing was run\n");
         return;
     }
     let n = read.count;
-    run(&space[..n]);
+    if !run(&space[..n]) {
+        complain(b"driver: the output cannot be written: the run ended there\n");
+    }
 }

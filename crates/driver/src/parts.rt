@@ -1,10 +1,10 @@
 // The operations on the image and on the work in hand.
 ghost use mathlib.Core.Path.{_≡_};
-ghost use Prim.Native.Nat.{_+_, _*_, _<_, _≤_};
+ghost use Prim.Native.Nat.{_<_, _≤_};
 ghost use lib.ListN.{length};
 ghost use Rattle.driver.specs.Run.{memoryWords, Ready, Moved};
 use crate::input::read64;
-use crate::input::string_length;
+use crate::output::NO_WORK;
 use crate::output::put_count;
 use crate::output::put_image;
 use crate::output::put32;
@@ -12,7 +12,6 @@ use crate::state::MEMORY_WORDS;
 use crate::state::State;
 use crate::state::stopped;
 use layout::little_endian::read32;
-use libc::STDOUT_FILENO;
 use machine::InHand;
 use work::Kind;
 use work::StashAt;
@@ -52,6 +51,7 @@ pub(crate) fn lend(input: &[u8], memory: &mut [u32], state: State) -> State
         at: end,
         words: count,
         hand,
+        written: true,
     }
 }
 
@@ -62,65 +62,29 @@ pub(crate) fn dump(memory: &[u32], state: State) -> State
     ensures { λ r. ⌜ Moved state r ⌝ }
 {
     let words = state.words;
-    put_image(&memory[..words]);
     let mut next = state;
     next.at = state.at + 1;
+    next.written = put_image(&memory[..words]);
     next
 }
 
-// Writes the stores left of the work in hand.
+// Writes how many stores the work in hand has left.
+fn put_left(hand: InHand) -> bool {
+    if !hand.present {
+        return put32(NO_WORK);
+    }
+    let work = hand.work;
+    put_count(work.left())
+}
+
+// Asks for the stores left.
 pub(crate) fn left(state: State) -> State
     requires { ⌜ Ready state ⌝ }
     ensures { λ r. ⌜ Moved state r ⌝ }
 {
-    let hand = state.hand;
-    if hand.present {
-        let work = hand.work;
-        put_count(work.left());
-    } else {
-        put32(0xFFFFFFFF);
-    }
     let mut next = state;
     next.at = state.at + 1;
-    next
-}
-
-// The answer of the work in hand into a buffer, and its number.
-fn take_answer(hand: InHand, buffer: &mut [u8]) -> u32 {
-    if !hand.present {
-        return 0xFFFFFFFF;
-    }
-    let work = hand.work;
-    let answered = work.answer(buffer);
-    answered.number
-}
-
-// A buffer for the longest answer that may be asked for. The `ensures` gives only the length, which
-// lending it needs.
-fn untouched() -> [u8; 65536]
-    ensures { λ r. ⌜ 65536 ≡ length r ⌝ }
-{
-    [0xA5; 65536]
-}
-
-// Takes the answer into a buffer of the size asked for, and writes its number and the whole buffer.
-pub(crate) fn answer(input: &[u8], state: State) -> State
-    requires { ⌜ Ready state ⌝ }
-    requires { ⌜ state .at < length (now input) ⌝ }
-    ensures { λ r. ⌜ Moved state r ⌝ }
-{
-    let at = state.at;
-    let end = at + 3;
-    if input.len() < end {
-        return stopped(input, state);
-    }
-    let size = string_length(input, at + 1);
-    let mut buffer = untouched();
-    let number = take_answer(state.hand, &mut buffer[..size]);
-    put32(number);
-    io::write_all(STDOUT_FILENO, &buffer[..size]);
-    let mut next = state;
-    next.at = end;
+    next.written = put_left(state.hand);
     next
 }
 
@@ -206,5 +170,6 @@ pub(crate) fn set(input: &[u8], state: State) -> State
         at: end,
         words: state.words,
         hand,
+        written: true,
     }
 }

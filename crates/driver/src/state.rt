@@ -4,19 +4,21 @@ ghost use lib.ListN.{length};
 ghost use Rattle.driver.specs.Run.{memoryWords, Ready, Moved};
 use layout::IMAGE_WORDS;
 use machine::InHand;
-use opening::works::bare_work;
 use work::Kind;
+use work::make::bare_work;
 
 // The most words that are lent, and the most bytes of the input that are used.
 pub const MEMORY_WORDS: usize = 4096;
 
 pub const INPUT_BYTES: usize = 1048576;
 
-// The next operation's place in the input, the number of words that are lent, and the work in hand.
+// The next operation's place in the input, the number of words that are lent, the work in hand, and
+// whether all that the last operation gave was written.
 pub struct State {
     pub at: usize,
     pub words: usize,
     pub hand: InHand,
+    pub written: bool,
 }
 
 // At first the whole image is lent and no work is in hand.
@@ -32,6 +34,7 @@ pub(crate) fn start() -> State
             boot: false,
             work,
         },
+        written: true,
     }
 }
 

@@ -1,24 +1,25 @@
--- The program's cold boot is accepted, and its image has an image's length. Assumes nothing.
-use mathlib.Core.Path.{_≡_, _∙_}
+-- The program's image has an image's length, since a boot's stores keep it. Assumes nothing.
+use Prim.Native.Nat.{ℕ}
+use mathlib.Core.Path.{_≡_, refl, _∙_}
+use mathlib.Core.List.{List}
 use lib.ListN.{length, replicate}
 use Rattle.layout.specs.Sizes.{imageWords}
 use Rattle.layout.specs.Words.{zeros}
-use Rattle.layout.specs.Below.{allBelow}
 use Rattle.layout.proofs.Tab.{length-zeros}
-use Rattle.work.specs.Entries.{leftOf}
-use Rattle.opening.specs.Tasks.{inputsOk}
-use Rattle.opening.specs.Openings.{openColdBoot}
-use Rattle.opening.specs.declared.Outcome.the-variants.{Cold}
+use Rattle.work.specs.declared.Work.{Work}
+use Rattle.work.proofs.After.{all-length}
+use Rattle.opening.specs.Tasks.{bootOf}
+use Rattle.opening.specs.Openings.{openColdBoot, storedBy, coldBooted}
+use Rattle.opening.specs.declared.BootStatus.{BootStatus}
 use Rattle.opening.specs.declared.BootStatus.the-variants as bootStatus
 use Rattle.respond.specs.Program.{coldImage}
-use Rattle.respond.proofs.After.{length-stays}
 
-pub cold-accepted : openColdBoot (zeros imageWords) (replicate 48 0x11) (replicate 48 0x22) .status ≡ bootStatus.Ready Cold
-unfolding openColdBoot inputsOk allBelow
-cold-accepted = rw (length-zeros imageWords)
+stored-length : (l : List ℕ) (w : Work) (s : BootStatus) → length (storedBy l w s) ≡ length l
+stored-length l w (bootStatus.Ready o) = all-length w l
+stored-length l w (bootStatus.Refused n) = refl
 
 pub cold-length : length coldImage ≡ imageWords
-unfolding coldImage
+unfolding coldImage coldBooted
 cold-length =
-    let w = openColdBoot (zeros imageWords) (replicate 48 0x11) (replicate 48 0x22) .work in
-    length-stays (leftOf w) w (zeros imageWords) ∙ length-zeros imageWords
+    let b = openColdBoot (zeros imageWords) (bootOf (replicate 48 0x11) (replicate 48 0x22)) in
+    stored-length (zeros imageWords) (b .work) (b .status) ∙ length-zeros imageWords

@@ -1,5 +1,4 @@
 -- Laws that belong to no one function.
-pub mod After
 pub mod Cold
 pub mod Input
 pub mod Ready

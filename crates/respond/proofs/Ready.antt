@@ -1,7 +1,8 @@
--- The work of a request that is not refused is well shaped, whatever the image holds. Assumes nothing.
-use Prim.Native.Nat.{ℕ, zero, suc, _<_, _≤_}
+-- The work of a request that is not refused is well shaped, whatever the image holds: a decline and each command's own task are, the stash's by the rules
+-- that did not apply. Assumes nothing.
+use Prim.Native.Nat.{ℕ, _<_, _≤_}
 use mathlib.Core.Path.{_≡_, refl, sym, ap, _∙_}
-use mathlib.Core.Bool.{Bool, true, false, cond, not, _&&_}
+use mathlib.Core.Bool.{Bool, true, false, cond, not}
 use mathlib.Core.List.{List, [], _∷_}
 use native.Mathlib.Omega.{arith}
 use lib.Dec.{eqb}
@@ -9,99 +10,108 @@ use lib.ListN.{length, take, drop, length-take}
 use borrow.Author.Tests.{lt-ltb, le-leb, leb-false}
 use Rattle.layout.specs.Sizes.{nodeCount, imageWords, answerMax}
 use Rattle.layout.specs.Words.{bytes4}
-use Rattle.tree.specs.Nodes.{holderOf, freeOf}
-use Rattle.tree.proofs.Meaning.{holder-only}
+use Rattle.tree.specs.Tree.{wellFormed, lowestFree, nodeWith, defaultWords}
+use Rattle.tree.specs.Nodes.{treeIn}
+use Rattle.tree.proofs.WellFormed.{holder-only}
 use Rattle.work.specs.declared.Work.{Work}
 use Rattle.work.specs.Table.{numberOf, indexOk}
-use Rattle.work.specs.Entries.{wellShaped, leftOf, finished}
-use Rattle.opening.specs.Tasks.{Request, Task, noStores, disableCommand, stash, Ruling, refused, accepted, View, Rule, firstRefusal, Command, stashMeasurement, disableAttestation, identityKey, verifySignature, unknown, commandOf, commandRules, commandTask, commandAnswer, answerOf, dpeResult, requestRules, requestAccepted, stashType, stashDigest, stashSvn, handoffOk}
-use Rattle.opening.specs.Works.{workAt, plainWork, stashWork}
+use Rattle.work.specs.Entries.{wellShaped, finished, allStores}
+use Rattle.work.specs.Made.{workWith}
+use Rattle.work.proofs.After.{all-finished}
+use Rattle.opening.specs.Tasks.{Request, noStores, disableCommand, stash, Measurement, Ruling, refused, accepted}
+use Rattle.opening.specs.Rules.{Verdict, refuse, decline, Rule, judged, decide, Command, stashMeasurement, disableAttestation, identityKey, verifySignature, unknownCommand, stashCode, disableCode, identityCode, verifyCode, commandOf, answerOf, declined, served, requestRules, requestRuling}
+use Rattle.opening.specs.Works.{workAt}
 use Rattle.opening.specs.Openings.{openedOf, sizeRule, viewIn, openRequest}
 use Rattle.opening.specs.declared.Status.the-variants as status
 use Rattle.opening.specs.declared.Opened.{Opened}
-use Rattle.respond.specs.Program.{workAfter}
-use Rattle.respond.proofs.After.{all-made}
 
 -- a ruling's work at an image, where it is not refused
-abbrev pub Shaped : List ℕ → Ruling → Type 0
+abbrev Shaped : List ℕ → Ruling → Type 0
 Shaped image (refused n) = Unit {0}
 Shaped image (accepted t a) = wellShaped (workAt image t a) ≡ true
 
--- a refusal before it changes nothing, and so no first n rules
-shaped-first : (image : List ℕ) (b : Bool) (n : ℕ) (R : Ruling) → Shaped image R → Shaped image (cond b (refused n) R)
-shaped-first image true n R h = tt
-shaped-first image false n R h = h
+-- ---- the works
 
-shaped-drop : (image : List ℕ) (n : ℕ) (rs : List Rule) (R : Ruling) → Shaped image (firstRefusal (drop n rs) R) → Shaped image (firstRefusal rs R)
-shaped-drop image zero rs R h = h
-shaped-drop image (suc n) [] R h = h
-shaped-drop image (suc n) (x ∷ rs) R h = shaped-first image (x .applies) (x .number) (firstRefusal rs R) (shaped-drop image n rs R h)
-
+-- checksum and status, eight bytes, and at most the two halves of a key
 short : (code : ℕ) (rest : List ℕ) → length rest ≤ 96 → length (answerOf code rest) ≤ answerMax
 unfolding answerOf
 short code rest h = omega arith
 
-plain-shaped : (image : List ℕ) (a : List ℕ) → length a ≤ answerMax → wellShaped (workAt image noStores a) ≡ true
-unfolding wellShaped workAt plainWork indexOk numberOf
-plain-shaped image a h = rw (le-leb (length a) answerMax h)
+idle-shaped : (image a : List ℕ) → length a ≤ answerMax → wellShaped (workAt image noStores a) ≡ true
+unfolding wellShaped workAt workWith indexOk numberOf
+idle-shaped image a h = rw (le-leb (length a) answerMax h)
 
-disabling-shaped : (image : List ℕ) (a : List ℕ) → length a ≤ answerMax → wellShaped (workAt image disableCommand a) ≡ true
-unfolding wellShaped workAt plainWork indexOk numberOf
+disabling-shaped : (image a : List ℕ) → length a ≤ answerMax → wellShaped (workAt image disableCommand a) ≡ true
+unfolding wellShaped workAt workWith indexOk numberOf
 disabling-shaped image a h = rw (le-leb (length a) answerMax h)
 
-stash-shaped : (image : List ℕ) (ty : ℕ) (d : List ℕ) (svn caller : ℕ) (a : List ℕ) → length a ≤ answerMax → freeOf image < nodeCount → holderOf image < nodeCount
-    → wellShaped (workAt image (stash ty d svn caller) a) ≡ true
-unfolding wellShaped workAt stashWork indexOk numberOf
-stash-shaped image ty d svn caller a h f g = rw (lt-ltb (freeOf image) nodeCount f, lt-ltb (holderOf image) nodeCount g, le-leb (length a) answerMax h)
+stash-shaped : (image : List ℕ) (x : Measurement) (a : List ℕ) → length a ≤ answerMax
+    → lowestFree nodeCount (treeIn image) < nodeCount → nodeWith nodeCount (treeIn image) defaultWords < nodeCount
+    → wellShaped (workAt image (stash x) a) ≡ true
+unfolding wellShaped workAt workWith indexOk numberOf
+stash-shaped image x a h f g =
+    rw (lt-ltb (lowestFree nodeCount (treeIn image)) nodeCount f, lt-ltb (nodeWith nodeCount (treeIn image) defaultWords) nodeCount g, le-leb (length a) answerMax h)
 
 -- ---- the rulings of a request
 
+-- no rule of a list applies
+abbrev NoneApply : List Rule → Type 0
+NoneApply [] = Unit {0}
+NoneApply (r ∷ rs) = (r .applies ≡ false) × NoneApply rs
+
+negated : (b : Bool) → not b ≡ false → b ≡ true
+negated true h = refl
+negated false h = sym h
+
 module _ (image : List ℕ) (r : Request) where
-  -- a command with nothing to store, after the rule that may refuse it
-  nothing-shaped : (b : Bool) (n : ℕ) (rest : List ℕ) → length rest ≤ 96 → Shaped image (cond b (refused n) (accepted noStores (answerOf (r .code) rest)))
-  nothing-shaped b n rest h =
-      let a = answerOf (r .code) rest in
-      shaped-first image b n (accepted noStores a) (plain-shaped image a (short (r .code) rest h))
+  -- a list of rules refuses, declines, or leaves the rest, where none applies
+  decided-shaped : (rs : List Rule) (R : Ruling) → (NoneApply rs → Shaped image R) → Shaped image (decide rs (declined r) R)
+  decided-shaped [] R o = o tt
+  decided-shaped (x ∷ rs) R o = go (x .applies) (x .verdict) refl (λ e. decided-shaped rs R (λ n. o (e, n)))
+    where
+      go : (b : Bool) (v : Verdict) → x .applies ≡ b → (x .applies ≡ false → Shaped image (decide rs (declined r) R))
+          → Shaped image (cond b (judged (declined r) v) (decide rs (declined r) R))
+      go true (refuse n) e on = tt
+      go true (decline n) e on = idle-shaped image _ (short (r .code) (bytes4 n) (omega arith))
+      go false v e on = on e
+
+  -- a command of which no rule applies
+  abbrev Serves : Command → Type 0
+  Serves c = NoneApply (c .rules (viewIn image) r) → Shaped image (served c r)
 
   -- a stash rests on its indices, which a well-formed image with a free node has
-  stash-ruled : (on formed full : Bool) → (formed ≡ true → holderOf image < nodeCount) → (full ≡ false → freeOf image < nodeCount) → (t : Task)
-      → t ≡ stash (stashType (r .bytes)) (stashDigest (r .bytes)) (stashSvn (r .bytes)) (r .caller)
-      → Shaped image
-      (cond (on && not formed) (refused 11)
-      (accepted (cond (eqb (cond on (cond full 1 0) 2) 0) t noStores) (answerOf (r .code) (bytes4 (cond on (cond full 1 0) 2)))))
-  stash-ruled false formed full h f t e = plain-shaped image _ (short (r .code) (bytes4 2) (omega arith))
-  stash-ruled true false full h f t e = tt
-  stash-ruled true true true h f t e = plain-shaped image _ (short (r .code) (bytes4 1) (omega arith))
-  stash-ruled true true false h f t e = rw e (stash-shaped image _ _ _ _ _ (short (r .code) (bytes4 0) (omega arith)) (f refl) (h refl))
-
-  command-shaped : (c : Command) (v : View) → (v .formed ≡ true → holderOf image < nodeCount) → (v .full ≡ false → freeOf image < nodeCount)
-      → Shaped image (firstRefusal (commandRules c v r) (accepted (commandTask c v r) (answerOf (r .code) (commandAnswer c v r))))
-  unfolding dpeResult
-  command-shaped stashMeasurement v h f = stash-ruled (v .on) (v .formed) (v .full) h f _ refl
-  command-shaped disableAttestation v h f = disabling-shaped image _ (short (r .code) [] (omega arith))
-  command-shaped identityKey v h f =
-      nothing-shaped (not (handoffOk (r .handoff))) 5 (take 96 (drop 304 (r .handoff))) (omega (arith, length-take 96 (drop 304 (r .handoff))))
-  command-shaped verifySignature v h f = nothing-shaped (not (r .verdict)) 0x42534947 [] (omega arith)
-  command-shaped unknown v h f = plain-shaped image _ (short (r .code) [] (omega arith))
-
-  -- five rules come before the command's own
-  ruled : Shaped image (firstRefusal (sizeRule image ∷ requestRules (viewIn image) r) (requestAccepted (viewIn image) r))
+  serves-stash : Serves stashMeasurement
   unfolding viewIn
-  ruled =
-      shaped-drop image 5 (sizeRule image ∷ requestRules (viewIn image) r) (requestAccepted (viewIn image) r)
-      (command-shaped (commandOf (r .code)) (viewIn image) (λ e. holder-only image e .below) (leb-false nodeCount (freeOf image)))
+  serves-stash n =
+      let t = treeIn image in
+      stash-shaped image _ _ (short (r .code) (bytes4 0) (omega arith)) (leb-false nodeCount (lowestFree nodeCount t) (n .1 .1 .0))
+      (holder-only nodeCount t (negated (wellFormed nodeCount t) (n .1 .0)) .below)
+
+  command-shaped : Serves (commandOf (r .code))
+  command-shaped = go (eqb (r .code) stashCode) (eqb (r .code) disableCode) (eqb (r .code) identityCode) (eqb (r .code) verifyCode)
+    where
+      go : (w x y z : Bool) → Serves (cond w stashMeasurement (cond x disableAttestation (cond y identityKey (cond z verifySignature unknownCommand))))
+      go true x y z = serves-stash
+      go false true y z = λ n. disabling-shaped image _ (short (r .code) [] (omega arith))
+      go false false true z = λ n.
+          idle-shaped image _ (short (r .code) (take 96 (drop 304 (r .handoff))) (omega (arith, length-take 96 (drop 304 (r .handoff)))))
+      go false false false true = λ n. idle-shaped image _ (short (r .code) [] (omega arith))
+      go false false false false = λ n. idle-shaped image _ (short (r .code) [] (omega arith))
 
   opened-shaped : (R : Ruling) → Shaped image R → openedOf image R .status ≡ status.Ready → wellShaped (openedOf image R .work) ≡ true
   opened-shaped (refused n) h e = let z : _≡_ {A = ℕ} 0 1 = cc in absurd (omega arith)
   opened-shaped (accepted t a) h e = h
 
-  pub ready-shaped : openRequest image r .status ≡ status.Ready → wellShaped (openRequest image r .work) ≡ true
+  -- five rules come before the command's own
+  ready-shaped : openRequest image r .status ≡ status.Ready → wellShaped (openRequest image r .work) ≡ true
   unfolding openRequest
-  ready-shaped e = opened-shaped (firstRefusal (sizeRule image ∷ requestRules (viewIn image) r) (requestAccepted (viewIn image) r)) ruled e
+  ready-shaped e =
+      let rules = sizeRule image ∷ requestRules (viewIn image) r in
+      opened-shaped (requestRuling rules r) (decided-shaped rules (served (commandOf (r .code)) r) (λ n. command-shaped (n .1 .1 .1 .1 .1))) e
 
   -- so after all stores it is finished
   pub ready-finished : (o : Opened) → o ≡ openRequest image r → o .status ≡ status.Ready → length image ≡ imageWords
-      → (done : Work) → done ≡ workAfter (leftOf (o .work)) (o .work) image → finished done ≡ true
+      → (done : Work) → done ≡ allStores (o .work) image .work → finished done ≡ true
   ready-finished o e ready long done d =
       let shaped : wellShaped (o .work) ≡ true = ap (λ (x : Opened). wellShaped (x .work)) e ∙ ready-shaped (sym (ap (λ (x : Opened). x .status) e) ∙ ready) in
-      ap finished d ∙ all-made (leftOf (o .work)) (o .work) image long shaped refl
+      ap finished d ∙ all-finished image long (o .work) shaped

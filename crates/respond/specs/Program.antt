@@ -2,33 +2,24 @@
 -- request from standard input, runs it on an image cold booted with 48 bytes 0x11 and secret 48 bytes 0x22, caller 0, verdict no, no handoff table, and
 -- writes the result (4 bytes, little endian) and the answer; a refused request writes the result only. Fewer than 4 input bytes count as code 0; of a
 -- longer input only the first 65,000 bytes are used." Assumes nothing.
-use Prim.Native.Nat.{ℕ, zero, suc, _+_, _-_}
+use Prim.Native.Nat.{ℕ, _+_, _-_}
 use mathlib.Core.Bool.{false, cond}
 use mathlib.Core.List.{List, [], _++_}
 use lib.Dec.{ltb}
 use lib.ListN.{length, take, drop, replicate}
 use Rattle.layout.specs.Sizes.{imageWords, answerMax}
 use Rattle.layout.specs.Words.{zeros, le32, bytes4}
-use Rattle.work.specs.Entries.{leftOf, storeResult, storeImage}
 use Rattle.work.specs.declared.Work.{Work}
-use Rattle.opening.specs.Tasks.{Request, requestOf}
-use Rattle.opening.specs.Openings.{openColdBoot, openRequest, statusNumber}
+use Rattle.opening.specs.Tasks.{Request, requestOf, bootOf}
+use Rattle.opening.specs.Openings.{openRequest, statusNumber, coldBooted}
 use Rattle.opening.specs.declared.Status.{Status}
 use Rattle.opening.specs.declared.Status.the-variants as status
 use Rattle.opening.specs.declared.Opened.{Opened}
-use Rattle.history.specs.Calls.{storeAll}
 use Rattle.respond.specs.declared.Response.{Response}
-
--- a work after n stores on an image, each by the store entry; the image after them is `storeAll`'s
-unfoldable pub workAfter : ℕ → Work → List ℕ → Work
-workAfter zero w image = w
-workAfter (suc n) w image = workAfter n (storeResult w image .work) (storeImage w image)
 
 -- "an image cold booted with 48 bytes 0x11 and secret 48 bytes 0x22": all stores of that boot, on an image of zero words
 unfoldable pub coldImage : List ℕ
-coldImage =
-    let w = openColdBoot (zeros imageWords) (replicate 48 0x11) (replicate 48 0x22) .work in
-    storeAll (leftOf w) w (zeros imageWords)
+coldImage = coldBooted (zeros imageWords) (bootOf (replicate 48 0x11) (replicate 48 0x22))
 
 -- "a code (4 bytes, little endian) and a request", "Fewer than 4 input bytes count as code 0", "caller 0, verdict no, no handoff table". The request is
 -- what follows the first 4 bytes.

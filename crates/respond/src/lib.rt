@@ -10,10 +10,11 @@ ghost use Rattle.layout.specs.Words.{bytes4};
 ghost use Rattle.respond.specs.Program.{outputOf, programOutput, responseOf};
 use crate::run::cold_image;
 use crate::run::open;
-use crate::run::run_all;
 use layout::ANSWER_MAX;
+use layout::little_endian::four;
 use opening::Status;
 use opening::works::number_of;
+use work::run::run_all;
 
 // The bytes of an input that are used.
 pub const INPUT_MAX: usize = 65000;
@@ -35,11 +36,7 @@ fn with_result(number: u32, n: usize, space: [u8; RESPONSE_MAX]) -> Response
     requires { ⌜ n ≤ answerMax ⌝ }
     ensures { λ r. ⌜ r ≡ record { len = 4 + n; bytes = bytes4 number ++ drop 4 space } ⌝ }
 {
-    let b0 = (number % 256) as u8;
-    let b1 = (number / 256 % 256) as u8;
-    let b2 = (number / 65536 % 256) as u8;
-    let b3 = (number / 16777216 % 256) as u8;
-    let result = [b0, b1, b2, b3];
+    let result = four(number);
     let mut out = space;
     bytes::copy(&result, &mut out);
     Response {

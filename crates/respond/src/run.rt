@@ -1,42 +1,21 @@
-// The image that the program's request meets, the request's opening, and all stores of a work.
+// The image that the program's request meets, and the request's opening.
 ghost use mathlib.Core.Path.{_≡_};
-ghost use Rattle.work.specs.Entries.{leftOf};
 ghost use Rattle.opening.specs.Openings.{openRequest};
-ghost use Rattle.history.specs.Calls.{storeAll};
-ghost use Rattle.respond.specs.Program.{workAfter, coldImage, requestIn};
-use boot::cold::open_cold_boot;
+ghost use Rattle.respond.specs.Program.{coldImage, requestIn};
+use boot::cold::boot_cold;
 use layout::IMAGE_WORDS;
 use layout::little_endian::read32;
 use opening::Opened;
 use request::open::open_request;
-use work::Work;
 
-// Makes all stores that a work has left, one by one.
-pub(crate) fn run_all(work: Work, image: &mut [u32]) -> Work
-    ensures { λ r. ⌜ r ≡ workAfter (leftOf work) work (now (image .entry)) ⌝ }
-    ensures { λ r. ⌜ now (image .exit) ≡ storeAll (leftOf work) work (now (image .entry)) ⌝ }
-{
-    let n = work.left();
-    let mut at = work;
-    for i in 0..n {
-        let stored = at.store(image);
-        let next = stored.work;
-        at = next;
-    }
-    at
-}
-
-// The image after the program's cold boot, which is never refused (`cold-accepted` of
-// proofs/Cold.antt).
+// The image after the program's cold boot.
 pub(crate) fn cold_image() -> [u32; IMAGE_WORDS]
     ensures { λ r. ⌜ r ≡ coldImage ⌝ }
 {
     let mut image = [0u32; IMAGE_WORDS];
     let digest = [0x11u8; 48];
     let secret = [0x22u8; 48];
-    let booted = open_cold_boot(&image, &digest, &secret);
-    let work = booted.work;
-    run_all(work, &mut image);
+    boot_cold(&mut image, &digest, &secret);
     image
 }
 

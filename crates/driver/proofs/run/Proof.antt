@@ -25,14 +25,17 @@ slice-aggregate-operation c = search needs
 operation-requires : tie.Need-operation-requires Inv-loop μ-loop
 operation-requires c κs = search needs
 
+returns : tie.Need-returns Inv-loop μ-loop
+returns c = search needs
+
 loop-less : tie.Need-loop-less Inv-loop μ-loop
 loop-less c = search needs
 
 loop-again : tie.Need-loop-again Inv-loop μ-loop
 loop-again c = search needs
 
-returns : tie.Need-returns Inv-loop μ-loop
-returns c = search needs
+returns-2 : tie.Need-returns-2 Inv-loop μ-loop
+returns-2 c = search needs
 
 pub run-spec : {M : Type 1} → statement M
 run-spec =
@@ -44,6 +47,7 @@ run-spec =
     loop-holds
     slice-aggregate-operation
     operation-requires
+    returns
     loop-less
     loop-again
-    returns)
+    returns-2)

@@ -7,12 +7,12 @@ use Rattle.work.specs.declared.Work.{Work}
 use lib.ListN.{length, replicate}
 use Rattle.layout.specs.Sizes.{answerMax}
 use mathlib.Core.Bool.{true}
-use Rattle.work.specs.Entries.{leftOf, finished}
+use Rattle.work.specs.Entries.{finished}
 use Rattle.work.specs.declared.Answered.{Answered}
 use Rattle.opening.specs.Openings.{openRequest}
 use Rattle.opening.specs.declared.Opened.{Opened}
 use Rattle.respond.specs.Program.{responseMax, requestIn, written, outputOf, responseOf}
-use Rattle.respond.proofs.After.{SameAnswer, answer-stays}
+use Rattle.work.proofs.After.{SameAnswer, all-answer}
 use Rattle.respond.proofs.Cold.{cold-length}
 use Rattle.respond.proofs.Ready.{ready-finished}
 use Rattle.respond.proofs.Output.{responseWith, refused-output, fits, taken, answered-output, ready-written}
@@ -77,7 +77,7 @@ long c = search needs
 same : (c : tie.After-run-all) → SameAnswer (c .run-all .result) (c .before .before .before .before .before .«open» .result .work)
 same c =
     let w = c .before .before .before .before .before .«open» .result .work in
-    subst (λ (x : Work). SameAnswer x w) (sym (c .run-all .ensures .0)) (answer-stays (leftOf w) w (c .before .before .before .before .before .before .before .cold-image .result))
+    subst (λ (x : Work). SameAnswer x w) (sym (c .run-all .ensures .0)) (all-answer w (c .before .before .before .before .before .before .before .cold-image .result))
 
 ended : (c : tie.After-run-all) → finished (c .run-all .result) ≡ true
 ended c =

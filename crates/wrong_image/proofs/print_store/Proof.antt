@@ -1,8 +1,10 @@
+-- The front that is lent lies within the words that there are.
 use native.Mathlib.Omega.{arith}
+use Prim.Native.Nat.{ℕ, _+_}
 use mathlib.Core.Path.{sym}
 use lib.ListN.{replicate}
 use lib.Seq.{length-take-le}
-use Prim.Native.Nat.{ℕ}
+use Rattle.layout.specs.Sizes.{imageWords}
 use borrow.Author.Needs.{needs}
 use Rattle.wrong_image.proofs.print_store.Statement.{statement}
 use Rattle.wrong_image.proofs.print_store.Tie as tie
@@ -11,7 +13,7 @@ array-borrow-prefix-space : tie.Need-array-borrow-prefix-space
 array-borrow-prefix-space c = search needs
 
 slice-aggregate-store : tie.Need-slice-aggregate-store
-slice-aggregate-store c = sym (length-take-le {A = ℕ} _ (replicate 1217 0) (omega arith))
+slice-aggregate-store c = sym (length-take-le {A = ℕ} _ (replicate (imageWords + 1) 0) (omega arith))
 
 store-requires : tie.Need-store-requires
 store-requires c κs = search needs

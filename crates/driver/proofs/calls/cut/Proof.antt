@@ -6,14 +6,14 @@ use borrow.Author.Needs.{needs}
 use Rattle.driver.proofs.calls.cut.Statement.{statement}
 use Rattle.driver.proofs.calls.cut.Tie as tie
 
-slice-relend-prefix-bare-call : tie.Need-slice-relend-prefix-bare-call
-slice-relend-prefix-bare-call c = search needs
+slice-relend-prefix-bare-act : tie.Need-slice-relend-prefix-bare-act
+slice-relend-prefix-bare-act c = search needs
 
-slice-aggregate-bare-call : tie.Need-slice-aggregate-bare-call
-slice-aggregate-bare-call c = sym (length-take-le _ (c .before .before .before .args .memory .now) (omega arith))
+slice-aggregate-bare-act : tie.Need-slice-aggregate-bare-act
+slice-aggregate-bare-act c = sym (length-take-le _ (c .before .before .before .args .memory .now) (omega arith))
 
-bare-call-requires : tie.Need-bare-call-requires
-bare-call-requires c κs = search needs
+bare-act-requires : tie.Need-bare-act-requires
+bare-act-requires c κs = search needs
 
 add-t9 : tie.Need-add-t9
 add-t9 c = search needs
@@ -28,9 +28,9 @@ pub cut-spec : {M : Type 1} → statement M
 cut-spec =
     tie.close
     (tie.spec
-    slice-relend-prefix-bare-call
-    slice-aggregate-bare-call
-    bare-call-requires
+    slice-relend-prefix-bare-act
+    slice-aggregate-bare-act
+    bare-act-requires
     add-t9
     same-length
     returns)

@@ -18,11 +18,11 @@ stopped-requires c κs = search needs
 returns : tie.Need-returns
 returns c = search needs
 
-slice-relend-prefix-call : tie.Need-slice-relend-prefix-call
-slice-relend-prefix-call c = search needs
+slice-relend-prefix-request-act : tie.Need-slice-relend-prefix-request-act
+slice-relend-prefix-request-act c = search needs
 
-slice-aggregate-call : tie.Need-slice-aggregate-call
-slice-aggregate-call c = sym (length-take-le _ (c .before .before .before .before .before .before .args .memory .now) (omega arith))
+slice-aggregate-request-act : tie.Need-slice-aggregate-request-act
+slice-aggregate-request-act c = sym (length-take-le _ (c .before .before .before .before .before .before .args .memory .now) (omega arith))
 
 add-read32 : tie.Need-add-read32
 add-read32 c = search needs
@@ -30,14 +30,14 @@ add-read32 c = search needs
 read32-requires : tie.Need-read32-requires
 read32-requires c κs = search needs
 
-sub-call : tie.Need-sub-call
-sub-call c = search needs
+sub-request-act : tie.Need-sub-request-act
+sub-request-act c = search needs
 
-part-call-start : tie.Need-part-call-start
-part-call-start c = search needs
+part-request-act-start : tie.Need-part-request-act-start
+part-request-act-start c = search needs
 
-part-call-end : tie.Need-part-call-end
-part-call-end c = search needs
+part-request-act-end : tie.Need-part-request-act-end
+part-request-act-end c = search needs
 
 add-read32-2 : tie.Need-add-read32-2
 add-read32-2 c = search needs
@@ -45,26 +45,20 @@ add-read32-2 c = search needs
 read32-requires-2 : tie.Need-read32-requires-2
 read32-requires-2 c κs = search needs
 
-sub-call-2 : tie.Need-sub-call-2
-sub-call-2 c = search needs
+sub-request-act-2 : tie.Need-sub-request-act-2
+sub-request-act-2 c = search needs
 
-part-call-start-2 : tie.Need-part-call-start-2
-part-call-start-2 c = search needs
+part-request-act-start-2 : tie.Need-part-request-act-start-2
+part-request-act-start-2 c = search needs
 
-part-call-end-2 : tie.Need-part-call-end-2
-part-call-end-2 c = search needs
+part-request-act-end-2 : tie.Need-part-request-act-end-2
+part-request-act-end-2 c = search needs
 
 byte-requires : tie.Need-byte-requires
 byte-requires c κs = search needs
 
-slice-aggregate-call-2 : tie.Need-slice-aggregate-call-2
-slice-aggregate-call-2 c = search needs
-
-slice-aggregate-call-3 : tie.Need-slice-aggregate-call-3
-slice-aggregate-call-3 c = search needs
-
-call-requires : tie.Need-call-requires
-call-requires c κs = search needs
+request-act-requires : tie.Need-request-act-requires
+request-act-requires c κs = search needs
 
 put-opening-requires : tie.Need-put-opening-requires
 put-opening-requires c κs = search needs
@@ -73,7 +67,7 @@ same-length : tie.Need-same-length
 same-length c = search needs
 
 returns-2 : tie.Need-returns-2
-returns-2 c = record { further = omega (arith, c .before .before .before .before .before .before .before .before .before .before .before .before .before .before .before .two-strings .ensures); lent = c .before .before .before .before .before .before .before .before .before .before .before .before .before .before .before .before .before .before .pre .0 .lent }
+returns-2 c = search needs
 
 pub request-spec : {M : Type 1} → statement M
 request-spec =
@@ -83,22 +77,20 @@ request-spec =
     two-strings-requires
     stopped-requires
     returns
-    slice-relend-prefix-call
-    slice-aggregate-call
+    slice-relend-prefix-request-act
+    slice-aggregate-request-act
     add-read32
     read32-requires
-    sub-call
-    part-call-start
-    part-call-end
+    sub-request-act
+    part-request-act-start
+    part-request-act-end
     add-read32-2
     read32-requires-2
-    sub-call-2
-    part-call-start-2
-    part-call-end-2
+    sub-request-act-2
+    part-request-act-start-2
+    part-request-act-end-2
     byte-requires
-    slice-aggregate-call-2
-    slice-aggregate-call-3
-    call-requires
+    request-act-requires
     put-opening-requires
     same-length
     returns-2)

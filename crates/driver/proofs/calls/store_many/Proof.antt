@@ -16,8 +16,8 @@ abbrev μ-loop : tie.MeasureT-loop
 loop-holds : tie.Need-loop-holds Inv-loop μ-loop
 loop-holds c = search needs
 
-bare-call-requires : tie.Need-bare-call-requires Inv-loop μ-loop
-bare-call-requires c κs = search needs
+bare-act-requires : tie.Need-bare-act-requires Inv-loop μ-loop
+bare-act-requires c κs = search needs
 
 enum-told : tie.Need-enum-told Inv-loop μ-loop
 enum-told c = search needs
@@ -38,7 +38,7 @@ loop-less : tie.Need-loop-less Inv-loop μ-loop
 loop-less c = search needs
 
 loop-again : tie.Need-loop-again Inv-loop μ-loop
-loop-again c = (omega arith, c .before .before .before .before .before .bare-call .kept .1 .0 ∙ c .before .before .before .before .before .before .before .before .loop .inv .1)
+loop-again c = (omega arith, c .before .before .before .before .before .bare-act .kept .1 .0 ∙ c .before .before .before .before .before .before .before .before .loop .inv .1)
 
 same-length-2 : tie.Need-same-length-2 Inv-loop μ-loop
 same-length-2 c = search needs
@@ -53,7 +53,7 @@ store-many-spec =
     Inv-loop
     μ-loop
     loop-holds
-    bare-call-requires
+    bare-act-requires
     enum-told
     refusal-requires
     same-length
