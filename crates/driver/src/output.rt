@@ -41,7 +41,7 @@ pub(crate) fn put_opening(report: Report) -> bool {
         Report::Refused(number) => put32(number),
         Report::Opened(left) => put32(0) && put_count(left),
         Report::Booted(outcome, left) => {
-            put32(0) && put8(outcome_number(outcome)) && put_count(left)
+            put32(0) && put8((outcome_number(outcome) % 256) as u8) && put_count(left)
         }
         _ => true,
     }

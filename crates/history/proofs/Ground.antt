@@ -19,8 +19,9 @@ use Rattle.work.specs.Table.{numberOf, indexOk}
 use Rattle.work.specs.declared.Put.{Put}
 use Rattle.work.proofs.Plans.{apply, length-apply}
 use Rattle.opening.specs.Tasks.{Request, BootInputs, Task, noStores, disableCommand, update, Ruling, refused, accepted, View}
-use Rattle.opening.specs.Rules.{Verdict, refuse, decline, Rule, refuses, judged, decide, Command, stashMeasurement, disableAttestation, identityKey, verifySignature, unknownCommand, commandOf, stashCode, disableCode, identityCode, verifyCode, answerOf, declined, served, commandRules, requestRules, requestRuling, updateTask}
+use Rattle.opening.specs.Rules.{refuses, decide, Command, stashMeasurement, commandOf, declined, served, commandRules, requestRules, requestRuling, updateTask}
 use Rattle.opening.specs.Works.{factsOf}
+use Rattle.opening.proofs.Decided.{commands, NoneApply, decided, negated, short}
 use Rattle.opening.specs.Openings.{viewIn, intact}
 use Rattle.history.specs.Ledger.{Chain, State, treeAt, next, blank, stateOf, imageOf, any, disables, isNone, isDisableCommand, isOff, viewOf}
 use Rattle.history.specs.Demand.{Shut}
@@ -155,31 +156,20 @@ finish {l} {h} (broken n m) tk f p =
 unfoldable pub ruling : View → Request → Ruling
 ruling v r = requestRuling (requestRules v r) r
 
--- what holds of each command, by the table
-pub commands : (P : Command → Type 0) → P stashMeasurement → P disableAttestation → P identityKey → P verifySignature → P unknownCommand → (code : ℕ) → P (commandOf code)
-commands P s d i v u code = go (eqb code stashCode) (eqb code disableCode) (eqb code identityCode) (eqb code verifyCode)
-  where
-    go : (w x y z : Bool) → P (cond w stashMeasurement (cond x disableAttestation (cond y identityKey (cond z verifySignature unknownCommand))))
-    go true x y z = s
-    go false true y z = d
-    go false false true z = i
-    go false false false true = v
-    go false false false false = u
-
 -- where attestation is off the rules do not look at the nodes
 pub off-rules : (v w : View) (r : Request) → v .done ≡ w .done → v .on ≡ false → w .on ≡ false → ruling v r ≡ ruling w r
 unfolding ruling
 off-rules v w r p a b =
     (λ i. ruling (record { done = p i; on = a i; nodes = v .nodes }) r)
-    ∙ commands (λ (c : Command). decided c (off (v .nodes)) ≡ decided c (off (w .nodes))) refl refl refl refl refl (r .code)
+    ∙ commands (λ (c : Command). ruled c (off (v .nodes)) ≡ ruled c (off (w .nodes))) refl refl refl refl refl (r .code)
     ∙ (λ i. ruling (record { done = w .done; on = sym b i; nodes = w .nodes }) r)
   where
     off : Tree → View
     off t = record { done = w .done; on = false; nodes = t }
 
     -- the rules, with the command as a variable
-    decided : Command → View → Ruling
-    decided c v =
+    ruled : Command → View → Ruling
+    ruled c v =
         decide (refuses unfinished (not (v .done)) ∷ refuses unknownCode (not (c .known)) ∷ commandRules c v r) (declined r) (served c r)
 
 -- an unfinished mark refuses every request
@@ -218,33 +208,9 @@ abbrev pub FitsRuling : List Task → Bool → Bool → Bool → Ruling → Type
 FitsRuling h t u b (refused n) = Unit {0}
 FitsRuling h t u b (accepted tk a) = Fits h t u tk × (length a ≤ answerMax) × (b ≡ isBoot tk)
 
--- no rule of a list applies
-abbrev NoneApply : List Rule → Type 0
-NoneApply [] = Unit {0}
-NoneApply (r ∷ rs) = (r .applies ≡ false) × NoneApply rs
-
--- what holds of a refusal, of a decline and, where no rule applies, of the rest holds of what the list comes to
-pub decided : (P : Ruling → Type 0) (rs : List Rule) (D : ℕ → Ruling) (R : Ruling) → ((n : ℕ) → P (refused n)) → ((n : ℕ) → P (D n)) → (NoneApply rs → P R) → P (decide rs D R)
-decided P [] D R f d o = o tt
-decided P (r ∷ rs) D R f d o = go (r .applies) (r .verdict) refl (λ e. decided P rs D R f d (λ n. o (e, n)))
-  where
-    go : (b : Bool) (v : Verdict) → r .applies ≡ b → (r .applies ≡ false → P (decide rs D R)) → P (cond b (judged D v) (decide rs D R))
-    go true (refuse n) e on = f n
-    go true (decline n) e on = d n
-    go false v e on = on e
-
 left-false : (t x : Bool) → not (t || x) ≡ true → t ≡ false
 left-false true x e = sym e
 left-false false x e = refl
-
-negated : (b : Bool) → not b ≡ false → b ≡ true
-negated true h = refl
-negated false h = sym h
-
--- checksum and status, eight bytes, and at most the two halves of a key
-short : (code : ℕ) (rest : List ℕ) → length rest ≤ 96 → length (answerOf code rest) ≤ answerMax
-unfolding answerOf
-short code rest h = omega arith
 
 -- nothing to store, where nothing is unfinished
 idle-fits : (h : List Task) (t : Bool) → Fits h t false noStores

@@ -19,7 +19,8 @@ use Rattle.history.specs.Calls.{Call, request, updateBoot, store, answer
 use Rattle.history.specs.Ledger.{Job, Ledger, stateOf, isOff, letGo, viewOf, ledgerRequest, ledgerBoot, updateRuling, ledgerStore, ledgerAnswer, ledgerStep, ledgerRun, firstLedger}
 use Rattle.history.specs.Demand.{afterColdBoot}
 use Rattle.history.proofs.Good.{formed-good}
-use Rattle.history.proofs.Ground.{Ground, sound, locked, broken, ruling, commands}
+use Rattle.history.proofs.Ground.{Ground, sound, locked, broken, ruling}
+use Rattle.opening.proofs.Decided.{commands, negated}
 use Rattle.history.proofs.Sim.{Related, sim, sim-run, release, rule-torn}
 use Rattle.history.proofs.Demand.{cold-start, store-cases}
 
@@ -56,10 +57,6 @@ module _ (v : View) (r : Request) (formed : v .on ≡ true → wellFormed nodeCo
       (λ e z. omega arith, λ e. tt)
       tt
       code
-    where
-      negated : (b : Bool) → not b ≡ false → b ≡ true
-      negated true h = refl
-      negated false h = sym h
 
   request-rules : NotRefused11 (ruling v r)
   unfolding ruling

@@ -31,7 +31,8 @@ use Rattle.opening.specs.Openings.{openedOf, bootedOf, viewIn, openRequest, int
 use Rattle.history.specs.Calls.{Call, request, updateBoot, store, answer, powerCut, kindName, Result, refusal, opened, booted, stored, answered, Hand, Machine, Step, afterRequest, afterBoot, afterStore, answerTaken, step, run}
 use Rattle.history.specs.Ledger.{treeAt, stateOf, Job, jobAt, Ledger, viewOf, tears, letGo, ledgerRequest, ledgerBoot, updateRuling, ledgerStore, ledgerAnswer, ledgerStep, ledgerRun}
 use Rattle.history.proofs.Runs.{planAt, plan-answer, length-at}
-use Rattle.history.proofs.Ground.{Ground, broken, Fits, storesAt, isBoot, FitsRuling, decided, ground-length, finish, ruling, rule-same, fits-rule, intact-same, fits-boot, calm, kind-same, index-ok}
+use Rattle.history.proofs.Ground.{Ground, broken, Fits, storesAt, isBoot, FitsRuling, ground-length, finish, ruling, rule-same, fits-rule, intact-same, fits-boot, calm, kind-same, index-ok}
+use Rattle.opening.proofs.Decided.{decided}
 
 -- ---- a work in hand, beside the ledger's job, with k stores made
 

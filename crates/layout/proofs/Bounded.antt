@@ -31,10 +31,6 @@ module _ (p : ℕ → Bool) where
   unfolding countBelow
   count-none = refl
 
-  pub count-more : (i c : ℕ) → c ≡ countBelow i p → c + cond (p i) 1 0 ≡ countBelow (i + 1) p
-  unfolding countBelow
-  count-more i c h = rw (add-one, h)
-
   -- a search that has passed the numbers below i: it goes on, ends at i, or has found none
   first-step : (k j i : ℕ) → k ≡ j + 1 → firstFrom p k i ≡ cond (p i) i (firstFrom p j (i + 1))
   unfolding firstFrom

@@ -1,5 +1,5 @@
 // One act of demand 3's machine, made through the entries on a lent image, the work in hand and a
-// lent buffer. What runs a list by `act` in a loop runs what the theorem of demand 3 is about.
+// lent buffer. What runs a list by `make` in a loop runs what the theorem of demand 3 is about.
 pub mod calls;
 
 ghost use mathlib.Core.Path.{_≡_};

@@ -1,11 +1,10 @@
 -- The work of a request that is not refused is well shaped, whatever the image holds: a decline and each command's own task are, the stash's by the rules
 -- that did not apply. Assumes nothing.
 use Prim.Native.Nat.{ℕ, _<_, _≤_}
-use mathlib.Core.Path.{_≡_, refl, sym, ap, _∙_}
-use mathlib.Core.Bool.{Bool, true, false, cond, not}
+use mathlib.Core.Path.{_≡_, sym, ap, _∙_}
+use mathlib.Core.Bool.{true, not}
 use mathlib.Core.List.{List, [], _∷_}
 use native.Mathlib.Omega.{arith}
-use lib.Dec.{eqb}
 use lib.ListN.{length, take, drop, length-take}
 use borrow.Author.Tests.{lt-ltb, le-leb, leb-false}
 use Rattle.layout.specs.Sizes.{nodeCount, imageWords, answerMax}
@@ -19,8 +18,9 @@ use Rattle.work.specs.Entries.{wellShaped, finished, allStores}
 use Rattle.work.specs.Made.{workWith}
 use Rattle.work.proofs.After.{all-finished}
 use Rattle.opening.specs.Tasks.{Request, noStores, disableCommand, stash, Measurement, Ruling, refused, accepted}
-use Rattle.opening.specs.Rules.{Verdict, refuse, decline, Rule, judged, decide, Command, stashMeasurement, disableAttestation, identityKey, verifySignature, unknownCommand, stashCode, disableCode, identityCode, verifyCode, commandOf, answerOf, declined, served, requestRules, requestRuling}
+use Rattle.opening.specs.Rules.{decline, Command, stashMeasurement, commandOf, declined, served, requestRules, requestRuling}
 use Rattle.opening.specs.Works.{workAt}
+use Rattle.opening.proofs.Decided.{commands, NoneApply, decided, negated, short}
 use Rattle.opening.specs.Openings.{openedOf, sizeRule, viewIn, openRequest}
 use Rattle.opening.specs.declared.Status.the-variants as status
 use Rattle.opening.specs.declared.Opened.{Opened}
@@ -31,11 +31,6 @@ Shaped image (refused n) = Unit {0}
 Shaped image (accepted t a) = wellShaped (workAt image t a) ≡ true
 
 -- ---- the works
-
--- checksum and status, eight bytes, and at most the two halves of a key
-short : (code : ℕ) (rest : List ℕ) → length rest ≤ 96 → length (answerOf code rest) ≤ answerMax
-unfolding answerOf
-short code rest h = omega arith
 
 idle-shaped : (image a : List ℕ) → length a ≤ answerMax → wellShaped (workAt image noStores a) ≡ true
 unfolding wellShaped workAt workWith indexOk numberOf
@@ -54,27 +49,7 @@ stash-shaped image x a h f g =
 
 -- ---- the rulings of a request
 
--- no rule of a list applies
-abbrev NoneApply : List Rule → Type 0
-NoneApply [] = Unit {0}
-NoneApply (r ∷ rs) = (r .applies ≡ false) × NoneApply rs
-
-negated : (b : Bool) → not b ≡ false → b ≡ true
-negated true h = refl
-negated false h = sym h
-
 module _ (image : List ℕ) (r : Request) where
-  -- a list of rules refuses, declines, or leaves the rest, where none applies
-  decided-shaped : (rs : List Rule) (R : Ruling) → (NoneApply rs → Shaped image R) → Shaped image (decide rs (declined r) R)
-  decided-shaped [] R o = o tt
-  decided-shaped (x ∷ rs) R o = go (x .applies) (x .verdict) refl (λ e. decided-shaped rs R (λ n. o (e, n)))
-    where
-      go : (b : Bool) (v : Verdict) → x .applies ≡ b → (x .applies ≡ false → Shaped image (decide rs (declined r) R))
-          → Shaped image (cond b (judged (declined r) v) (decide rs (declined r) R))
-      go true (refuse n) e on = tt
-      go true (decline n) e on = idle-shaped image _ (short (r .code) (bytes4 n) (omega arith))
-      go false v e on = on e
-
   -- a command of which no rule applies
   abbrev Serves : Command → Type 0
   Serves c = NoneApply (c .rules (viewIn image) r) → Shaped image (served c r)
@@ -88,15 +63,12 @@ module _ (image : List ℕ) (r : Request) where
       (holder-only nodeCount t (negated (wellFormed nodeCount t) (n .1 .0)) .below)
 
   command-shaped : Serves (commandOf (r .code))
-  command-shaped = go (eqb (r .code) stashCode) (eqb (r .code) disableCode) (eqb (r .code) identityCode) (eqb (r .code) verifyCode)
-    where
-      go : (w x y z : Bool) → Serves (cond w stashMeasurement (cond x disableAttestation (cond y identityKey (cond z verifySignature unknownCommand))))
-      go true x y z = serves-stash
-      go false true y z = λ n. disabling-shaped image _ (short (r .code) [] (omega arith))
-      go false false true z = λ n.
-          idle-shaped image _ (short (r .code) (take 96 (drop 304 (r .handoff))) (omega (arith, length-take 96 (drop 304 (r .handoff)))))
-      go false false false true = λ n. idle-shaped image _ (short (r .code) [] (omega arith))
-      go false false false false = λ n. idle-shaped image _ (short (r .code) [] (omega arith))
+  command-shaped =
+      commands Serves serves-stash (λ n. disabling-shaped image _ (short (r .code) [] (omega arith)))
+      (λ n. idle-shaped image _ (short (r .code) (take 96 (drop 304 (r .handoff))) (omega (arith, length-take 96 (drop 304 (r .handoff))))))
+      (λ n. idle-shaped image _ (short (r .code) [] (omega arith)))
+      (λ n. idle-shaped image _ (short (r .code) [] (omega arith)))
+      (r .code)
 
   opened-shaped : (R : Ruling) → Shaped image R → openedOf image R .status ≡ status.Ready → wellShaped (openedOf image R .work) ≡ true
   opened-shaped (refused n) h e = let z : _≡_ {A = ℕ} 0 1 = cc in absurd (omega arith)
@@ -107,7 +79,10 @@ module _ (image : List ℕ) (r : Request) where
   unfolding openRequest
   ready-shaped e =
       let rules = sizeRule image ∷ requestRules (viewIn image) r in
-      opened-shaped (requestRuling rules r) (decided-shaped rules (served (commandOf (r .code)) r) (λ n. command-shaped (n .1 .1 .1 .1 .1))) e
+      let shaped : Shaped image (requestRuling rules r) =
+      decided (Shaped image) rules (declined r) (served (commandOf (r .code)) r) (λ n. tt) (λ n. idle-shaped image _ (short (r .code) (bytes4 n) (omega arith)))
+      (λ n. command-shaped (n .1 .1 .1 .1 .1)) in
+      opened-shaped (requestRuling rules r) shaped e
 
   -- so after all stores it is finished
   pub ready-finished : (o : Opened) → o ≡ openRequest image r → o .status ≡ status.Ready → length image ≡ imageWords

@@ -6,9 +6,9 @@ use Prim.Native.Nat.{ℕ, zero, suc, _-_, _<_}
 use native.Mathlib.Decide.{ℕ-discrete}
 use mathlib.Core.Bool.{Bool, true, false, cond, _&&_, true≢false}
 use lib.Dec.{eqb}
-use borrow.Author.Tests.{eq-eqb, ne-eqb, eqb-true}
+use borrow.Author.Tests.{eq-eqb, ne-eqb}
 use Rattle.layout.specs.Sizes.{rootMark, internalFlag, rootType}
-use Rattle.layout.proofs.Cases.{and-left, and-right}
+use Rattle.layout.proofs.Cases.{and-left}
 use Rattle.tree.specs.Tree.{Place, Tree, isRoot, rootOk, leads}
 use Rattle.tree.proofs.Ways.{leads-root, leads-on, leads-cases, enough}
 
@@ -47,10 +47,6 @@ frame-kind p q e = ap (λ (f : Frame). eqb (f .flags) internalFlag && eqb (f .ty
 pub root-used : (p : Place) → isRoot p ≡ true → p .used ≡ true
 unfolding isRoot
 root-used p h = and-left (p .used) (eqb (p .parent) rootMark) h
-
-pub root-parent : (p : Place) → isRoot p ≡ true → p .parent ≡ rootMark
-unfolding isRoot
-root-parent p h = eqb-true (p .parent) rootMark (and-right (p .used) (eqb (p .parent) rootMark) h)
 
 -- node i hangs below a used node
 pub record Child (n : ℕ) (t : Tree) (i : ℕ) : Type 0 where

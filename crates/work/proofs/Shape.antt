@@ -70,6 +70,3 @@ within (Stash s) k i h = (
 )
 within (Update root) k i h = (ltb-true root nodeCount i, h)
 within ColdBoot k i h = h
-
-pub left-within : (w : Work) → 0 < leftOf w → Within (w .kind) (w .position)
-left-within w left = within (w .kind) (w .position) (shaped-index w (left-shaped w left)) (left-position w left)
