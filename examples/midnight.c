@@ -95,8 +95,8 @@ static size_t used_nodes(void)
 static void tell_buyer(uint32_t outcome, size_t before)
 {
     if (outcome == WAGGLELOFT_DISABLED) {
-        printf("The unit found a work that was cut: attestation is %s and the secret is %s, for good. "
-               "You are shown no list, so none with a hole in it.\n",
+        printf("The unit found a work that was cut: attestation is %s and the secret is %s, until "
+               "a cold boot starts a new list. You are shown no list, so none with a hole in it.\n",
                image[ATTESTATION_WORD] == 1 ? "on" : "off", any(image + SECRET_WORD, SECRET_WORDS) ? "kept" : "erased");
         return;
     }

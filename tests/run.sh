@@ -96,6 +96,7 @@ expect 'through a symbolic link' "$(sha384sum <abc)"$'\nstatus 0' \
 version=$(cat "$root/VERSION")
 expect 'the version of ./run' "waggleloft $version" "$("$root/run" --version)"
 expect 'the newest entry of CHANGES.md' "## $version" "$(grep -m 1 '^## ' "$root/CHANGES.md")"
+expect 'the version of the header' "$version" "$(sed -n 's/^#define WAGGLELOFT_VERSION "\(.*\)"/\1/p' "$root/include/waggleloft.h")"
 
 # A tree in which nothing is built.
 mkdir -p tree/crates/sha384sum/src bin

@@ -49,7 +49,7 @@ examples() { # SUFFIX COMMAND..
         "$(midnight "$@" "$built/midnight$suffix" 0)"
     for cut in 1 52; do
         expect "midnight$suffix $cut" \
-            'The unit found a work that was cut: attestation is off and the secret is erased, for good. You are shown no list, so none with a hole in it.' \
+            'The unit found a work that was cut: attestation is off and the secret is erased, until a cold boot starts a new list. You are shown no list, so none with a hole in it.' \
             "$(midnight "$@" "$built/midnight$suffix" "$cut")"
     done
     expect "midnight$suffix 53" 'Attestation is on. The new measurement is in the list, and all earlier ones are.' \

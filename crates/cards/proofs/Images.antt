@@ -21,7 +21,7 @@ use Rattle.tree.proofs.WellFormed.{free-there}
 use Rattle.opening.specs.Values.{measured, childNode, rootNode}
 use Rattle.opening.specs.Tasks.{BootInputs, bootOf, Measurement, stash, coldBoot}
 use Rattle.opening.specs.Openings.{bootNumber, openColdBoot, coldBooted}
-use Rattle.history.specs.Ledger.{Chain, State, treeAt, changed, nextChain, next, blank, stateOf}
+use Rattle.history.specs.Ledger.{Chain, Contents, treeAt, changed, nextChain, next, blank, stateOf}
 use Rattle.history.proofs.Encoded.{Shape, encodes, tree-read, length-image, mark-read, attestation-read}
 use Rattle.history.proofs.Good.{Good, good-cold, good-stash, holder-node, formed-good}
 use Rattle.history.proofs.Demand.{cold-image}
@@ -37,7 +37,7 @@ root-word before x e =
     ∙ encodes 1 1 s (good-cold (blank .chain) x .shape) 0 0 (omega (arith, good-cold (blank .chain) x .shape .nodes)) (omega arith)
     ∙ row-first (rootNode (measured (x .digest)))
   where
-    s : State
+    s : Contents
     s = next blank (coldBoot x)
 
 -- ---- used places
@@ -113,11 +113,11 @@ module _ (x : Chain) (g : Good x) (k : ℕ) (room : k < nodeCount) (f : Filled (
           (used-changed (withHandle retiredHandle) (getD ns h none) ∙ ap isUsed (sym (getD-set-other ns free h new none apart)))
 
 -- n stashes fill n more
-record Used (x : State) (k : ℕ) : Type 0 where
+record Used (x : Contents) (k : ℕ) : Type 0 where
   pub good : Good (x .chain)
   pub filled : Filled (treeAt (x .chain)) k
 
-stashes : (m : Measurement) (n : ℕ) (x : State) (k j : ℕ) → Used x k → k + n ≡ j → j ≤ nodeCount → Used (foldl next x (replicate n (stash m))) j
+stashes : (m : Measurement) (n : ℕ) (x : Contents) (k j : ℕ) → Used x k → k + n ≡ j → j ≤ nodeCount → Used (foldl next x (replicate n (stash m))) j
 stashes m zero x k j u e l = subst (Used x) (sym (add-zero k) ∙ e) u
 stashes m (suc n) x k j u e l =
     stashes m n (next x (stash m)) (suc k) j
@@ -154,7 +154,7 @@ history-used k z l =
     stashes zeroMeasurement (k - 1) (next blank firstBoot) 1 k (cold-used (bootOf (replicate 48 0x11) (replicate 48 0x22))) (omega arith) l
 
 module _ (k : ℕ) (some-node : 0 < k) (few : k ≤ nodeCount) where
-  abbrev x : State
+  abbrev x : Contents
   x = stateOf (historyOf k)
 
   u : Used x k

@@ -8,7 +8,7 @@ use Rattle.layout.specs.Words.{bytes4, zeros}
 use Rattle.tree.specs.Record.{Node}
 use Rattle.opening.specs.Values.{childNode}
 use Rattle.opening.specs.Tasks.{Request, requestOf, bootOf, Measurement, Task, stash, coldBoot}
-use Rattle.history.specs.Ledger.{State, stateOf, imageOf}
+use Rattle.history.specs.Ledger.{Contents, stateOf, imageOf}
 
 -- a cold boot with the inputs of document 01's program
 abbrev pub firstBoot : Task
@@ -29,7 +29,7 @@ imageWith k = imageOf 1 1 (stateOf (historyOf k))
 abbrev pub ownParent : Node
 ownParent = childNode 1 zeroMeasurement
 
-abbrev pub looped : State
+abbrev pub looped : Contents
 looped =
     let x = stateOf (historyOf 2) in
     record { secret = x .secret; chain = record { registers = x .chain .registers; nodes = set (x .chain .nodes) 1 (some ownParent) } }

@@ -9,7 +9,7 @@ use crate::output::NO_WORK;
 use crate::output::put;
 use crate::output::put_opening;
 use crate::output::put32;
-use crate::state::State;
+use crate::state::Progress;
 use crate::state::stopped;
 use layout::little_endian::byte;
 use layout::little_endian::read32;
@@ -58,7 +58,7 @@ fn boot_act(
 
 // Opens a boot, cold or update: two byte strings, the digest and the secret, and then ROM's verdict
 // where there is one.
-pub(crate) fn boot(op: u8, input: &[u8], memory: &mut [u32], state: State) -> State
+pub(crate) fn boot(op: u8, input: &[u8], memory: &mut [u32], state: Progress) -> Progress
     requires { ⌜ Ready state ⌝ }
     requires { ⌜ state .at < length (now input) ⌝ }
     requires { ⌜ length (now memory) ≡ memoryWords ⌝ }
@@ -86,7 +86,7 @@ pub(crate) fn boot(op: u8, input: &[u8], memory: &mut [u32], state: State) -> St
     let report = made.report;
     let written = put_opening(report);
     let after = made.hand;
-    State {
+    Progress {
         at: end,
         words,
         hand: after,
@@ -122,7 +122,7 @@ fn request_act(
 }
 
 // Opens a request: code, caller and verdict, then two byte strings, the handoff table and the request.
-pub(crate) fn request(input: &[u8], memory: &mut [u32], state: State) -> State
+pub(crate) fn request(input: &[u8], memory: &mut [u32], state: Progress) -> Progress
     requires { ⌜ Ready state ⌝ }
     requires { ⌜ state .at < length (now input) ⌝ }
     requires { ⌜ length (now memory) ≡ memoryWords ⌝ }
@@ -151,7 +151,7 @@ pub(crate) fn request(input: &[u8], memory: &mut [u32], state: State) -> State
     let report = made.report;
     let written = put_opening(report);
     let after = made.hand;
-    State {
+    Progress {
         at: end,
         words,
         hand: after,
@@ -220,7 +220,7 @@ fn store_many(image: &mut [u32], hand: InHand, count: u32) -> Ran {
 }
 
 // Makes a number of stores.
-pub(crate) fn stores(input: &[u8], memory: &mut [u32], state: State) -> State
+pub(crate) fn stores(input: &[u8], memory: &mut [u32], state: Progress) -> Progress
     requires { ⌜ Ready state ⌝ }
     requires { ⌜ state .at < length (now input) ⌝ }
     requires { ⌜ length (now memory) ≡ memoryWords ⌝ }
@@ -236,7 +236,7 @@ pub(crate) fn stores(input: &[u8], memory: &mut [u32], state: State) -> State
     let ran = store_many(&mut memory[..words], hand, read32(input, at + 1));
     let written = put32(ran.made) && put32(ran.number);
     let after = ran.hand;
-    State {
+    Progress {
         at: end,
         words,
         hand: after,
@@ -279,7 +279,7 @@ fn answer_number(report: Report) -> u32 {
 }
 
 // Takes the answer into a buffer of the size asked for, and writes its number and the whole buffer.
-pub(crate) fn answer(input: &[u8], memory: &mut [u32], state: State) -> State
+pub(crate) fn answer(input: &[u8], memory: &mut [u32], state: Progress) -> Progress
     requires { ⌜ Ready state ⌝ }
     requires { ⌜ state .at < length (now input) ⌝ }
     requires { ⌜ length (now memory) ≡ memoryWords ⌝ }
@@ -298,7 +298,7 @@ pub(crate) fn answer(input: &[u8], memory: &mut [u32], state: State) -> State
     let report = made.report;
     let written = put32(answer_number(report)) && put(&buffer[..size]);
     let after = made.hand;
-    State {
+    Progress {
         at: end,
         words,
         hand: after,
@@ -307,7 +307,7 @@ pub(crate) fn answer(input: &[u8], memory: &mut [u32], state: State) -> State
 }
 
 // A power cut.
-pub(crate) fn cut(memory: &mut [u32], state: State) -> State
+pub(crate) fn cut(memory: &mut [u32], state: Progress) -> Progress
     requires { ⌜ Ready state ⌝ }
     requires { ⌜ length (now memory) ≡ memoryWords ⌝ }
     ensures { λ r. ⌜ Moved state r ⌝ }
@@ -316,7 +316,7 @@ pub(crate) fn cut(memory: &mut [u32], state: State) -> State
     let hand = state.hand;
     let made = bare_act(POWER_CUT, &mut memory[..words], hand);
     let after = made.hand;
-    State {
+    Progress {
         at: state.at + 1,
         words,
         hand: after,

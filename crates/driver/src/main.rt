@@ -18,7 +18,7 @@ ghost use lib.ListN.{length};
 ghost use Rattle.driver.specs.Run.{memoryWords, inputBytes, Ready, Moved};
 use crate::state::INPUT_BYTES;
 use crate::state::MEMORY_WORDS;
-use crate::state::State;
+use crate::state::Progress;
 use crate::state::start;
 use crate::state::stopped;
 use libc::STDERR_FILENO;
@@ -28,7 +28,7 @@ use machine::UPDATE_BOOT;
 use reading::read_whole;
 
 // One operation.
-fn operation(input: &[u8], memory: &mut [u32], state: State) -> State
+fn operation(input: &[u8], memory: &mut [u32], state: Progress) -> Progress
     requires { ⌜ Ready state ⌝ }
     requires { ⌜ state .at < length (now input) ⌝ }
     requires { ⌜ length (now memory) ≡ memoryWords ⌝ }

@@ -9,7 +9,7 @@ use crate::output::put_count;
 use crate::output::put_image;
 use crate::output::put32;
 use crate::state::MEMORY_WORDS;
-use crate::state::State;
+use crate::state::Progress;
 use crate::state::stopped;
 use layout::little_endian::read32;
 use machine::InHand;
@@ -29,7 +29,7 @@ fn load(input: &[u8], from: usize, memory: &mut [u32], count: usize)
 }
 
 // Lends another image: the work in hand goes.
-pub(crate) fn lend(input: &[u8], memory: &mut [u32], state: State) -> State
+pub(crate) fn lend(input: &[u8], memory: &mut [u32], state: Progress) -> Progress
     requires { ⌜ Ready state ⌝ }
     requires { ⌜ state .at < length (now input) ⌝ }
     requires { ⌜ length (now memory) ≡ memoryWords ⌝ }
@@ -47,7 +47,7 @@ pub(crate) fn lend(input: &[u8], memory: &mut [u32], state: State) -> State
     load(input, at + 5, memory, count);
     let mut hand = state.hand;
     hand.present = false;
-    State {
+    Progress {
         at: end,
         words: count,
         hand,
@@ -56,7 +56,7 @@ pub(crate) fn lend(input: &[u8], memory: &mut [u32], state: State) -> State
 }
 
 // Writes the image.
-pub(crate) fn dump(memory: &[u32], state: State) -> State
+pub(crate) fn dump(memory: &[u32], state: Progress) -> Progress
     requires { ⌜ Ready state ⌝ }
     requires { ⌜ length (now memory) ≡ memoryWords ⌝ }
     ensures { λ r. ⌜ Moved state r ⌝ }
@@ -78,7 +78,7 @@ fn put_left(hand: InHand) -> bool {
 }
 
 // Asks for the stores left.
-pub(crate) fn left(state: State) -> State
+pub(crate) fn left(state: Progress) -> Progress
     requires { ⌜ Ready state ⌝ }
     ensures { λ r. ⌜ Moved state r ⌝ }
 {
@@ -150,7 +150,7 @@ fn with_part(work: Work, field: u8, value: usize) -> Work {
 }
 
 // Sets a part of the work in hand. With none in hand that work is not read again, so nothing changes.
-pub(crate) fn set(input: &[u8], state: State) -> State
+pub(crate) fn set(input: &[u8], state: Progress) -> Progress
     requires { ⌜ Ready state ⌝ }
     requires { ⌜ state .at < length (now input) ⌝ }
     ensures { λ r. ⌜ Moved state r ⌝ }
@@ -166,7 +166,7 @@ pub(crate) fn set(input: &[u8], state: State) -> State
     let before = hand.work;
     let work = with_part(before, field, value);
     hand.work = work;
-    State {
+    Progress {
         at: end,
         words: state.words,
         hand,

@@ -14,7 +14,7 @@ pub const INPUT_BYTES: usize = 1048576;
 
 // The next operation's place in the input, the number of words that are lent, the work in hand, and
 // whether all that the last operation gave was written.
-pub struct State {
+pub struct Progress {
     pub at: usize,
     pub words: usize,
     pub hand: InHand,
@@ -22,11 +22,11 @@ pub struct State {
 }
 
 // At first the whole image is lent and no work is in hand.
-pub(crate) fn start() -> State
+pub(crate) fn start() -> Progress
     ensures { λ r. ⌜ r .words ≤ memoryWords ⌝ }
 {
     let work = bare_work(Kind::Nothing);
-    State {
+    Progress {
         at: 0,
         words: IMAGE_WORDS,
         hand: InHand {
@@ -39,7 +39,7 @@ pub(crate) fn start() -> State
 }
 
 // The run ends: the next operation would stand at the input's end.
-pub(crate) fn stopped(input: &[u8], state: State) -> State
+pub(crate) fn stopped(input: &[u8], state: Progress) -> Progress
     requires { ⌜ Ready state ⌝ }
     requires { ⌜ state .at < length (now input) ⌝ }
     ensures { λ r. ⌜ Moved state r ⌝ }

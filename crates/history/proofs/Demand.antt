@@ -29,7 +29,7 @@ use Rattle.opening.specs.declared.Status.the-variants as status
 use Rattle.opening.specs.declared.BootStatus.{BootStatus}
 use Rattle.opening.specs.declared.BootStatus.the-variants as bootStatus
 use Rattle.history.specs.Calls.{Call, request, updateBoot, store, answer, powerCut, refusal, stored, Hand, Machine, Step, afterRequest, afterBoot, afterStore, step, run, results}
-use Rattle.history.specs.Ledger.{State, treeAt, Job, Ledger, blank, next, stateOf, registerRows, nodeRows, imageOf, any, disables, isDisableCommand, tears, viewOf, letGo, ledgerRequest, ledgerBoot, updateRuling, ledgerStore, ledgerStep, ledgerRun, ledgerResults, firstLedger}
+use Rattle.history.specs.Ledger.{Contents, treeAt, Job, Ledger, blank, next, stateOf, registerRows, nodeRows, imageOf, any, disables, isDisableCommand, tears, viewOf, letGo, ledgerRequest, ledgerBoot, updateRuling, ledgerStore, ledgerStep, ledgerRun, ledgerResults, firstLedger}
 use Rattle.history.specs.Demand.{Shut, wasAccepted, bootEnded, endsBoot, AsCounted, Kept, isUnderWay, Holds, afterColdBoot, Demand3}
 use Rattle.history.proofs.Encoded.{mark-read, attestation-read, secret-read}
 use Rattle.history.proofs.Good.{Good, good-cold}
@@ -58,7 +58,7 @@ module _ (l : List ℕ) (h : List Task) (g : Good (stateOf h .chain)) (e : l ≡
       a : ℕ
       a = attestationWord (any disables h)
 
-      s : State
+      s : Contents
       s = stateOf h
 
 counted-ground : {l : List ℕ} {b : Ledger} {h : List Task} {t u : Bool} → Ground l h t u → b .history ≡ h → b .torn ≡ t → b .unfinished ≡ u → t ≡ false → AsCounted l b
@@ -221,7 +221,7 @@ cold-image before x e = go (eqb (length before) imageWords) refl (inputsOk x) e
 
 pub cold-start : (before : List ℕ) (x : BootInputs) → bootNumber (openColdBoot before x .status) ≡ 0 → Related (afterColdBoot before x) (firstLedger x)
 cold-start before x e =
-    empty (sound (subst (λ (y : State). Good (y .chain)) (sym (cold-history x)) (good-cold (blank .chain) x)) refl (cold-image before x e ∙ ap (imageOf 1 1) (sym (cold-history x))))
+    empty (sound (subst (λ (y : Contents). Good (y .chain)) (sym (cold-history x)) (good-cold (blank .chain) x)) refl (cold-image before x e ∙ ap (imageOf 1 1) (sym (cold-history x))))
 
 -- ---- demand 3
 

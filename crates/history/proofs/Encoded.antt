@@ -23,7 +23,7 @@ use Rattle.tree.specs.Nodes.{word, used, parent, allZero, placeIn, treeIn, cumu
 use Rattle.tree.specs.Record.{Node, handleRow, placeRow, placeOf}
 use Rattle.tree.proofs.Rows.{length-handle, length48, length-row, row-first, row-handle, row-flags, row-current, row-cumulative, row-type, row-locality}
 use Rattle.opening.specs.Works.{registerIn}
-use Rattle.history.specs.Ledger.{Chain, State, treeAt, registerRows, nodeRows, imageOf}
+use Rattle.history.specs.Ledger.{Chain, Contents, treeAt, registerRows, nodeRows, imageOf}
 
 -- the sizes of a chain's parts; what is read back as bytes are bytes
 pub record Shape (x : Chain) : Type 0 where
@@ -41,7 +41,7 @@ within p q n i h l = List·getD-append p q 0 i (omega arith)
 
 -- ---- the image of a state
 
-module _ (mk at : ℕ) (x : State) where
+module _ (mk at : ℕ) (x : Contents) where
   abbrev rows : List ℕ
   rows = registerRows (x .chain) ++ nodeRows (x .chain)
 
@@ -79,7 +79,7 @@ length-registers x h = length-flat registerWords (map words48 (x .registers)) (s
 length-nodes : (x : Chain) → length (x .nodes) ≡ nodeCount → length (nodeRows x) ≡ nodeCount * nodeWords
 length-nodes x h = length-flat nodeWords (map placeRow (x .nodes)) (sized-nodes x) ∙ omega (arith, length-mapped placeRow (x .nodes))
 
-module _ (mk at : ℕ) (x : State) (h : Shape (x .chain)) where
+module _ (mk at : ℕ) (x : Contents) (h : Shape (x .chain)) where
   pub length-image : length (imageOf mk at x) ≡ imageWords
   unfolding imageOf front
   length-image =
@@ -182,7 +182,7 @@ place-read m ns r i l (some n) e =
 past-read : (m : List ℕ) → length m ≡ imageWords → (i : ℕ) → nodeCount ≤ i → placeIn m i ≡ freePlace
 past-read m e i l = zero-place m i (λ j b. unfold word in (List·getD-eq-default m 0 {n = nodeAt i + j} (omega arith)))
 
-module _ (mk at : ℕ) (x : State) (h : Shape (x .chain)) where
+module _ (mk at : ℕ) (x : Contents) (h : Shape (x .chain)) where
   pub encodes : Encodes (imageOf mk at x) (x .chain .nodes)
   encodes i j l b = word-read mk at x h i j (omega (arith, h .nodes)) b
 

@@ -30,7 +30,7 @@ use Rattle.tree.proofs.WellFormed.{Formed, same-refl, rehandled, stashed, forme
 use Rattle.opening.specs.Values.{measured, childNode, rootNode}
 use Rattle.opening.specs.Tasks.{BootInputs, Measurement, stash, update, coldBoot}
 use Rattle.opening.specs.Openings.{rootMatches}
-use Rattle.history.specs.Ledger.{Chain, State, treeAt, changed, renewed, nextChain, imageOf}
+use Rattle.history.specs.Ledger.{Chain, Contents, treeAt, changed, renewed, nextChain, imageOf}
 use Rattle.history.proofs.Encoded.{Shape, register-words, current-at, cumulative-words, encodes, tree-read}
 
 -- the current measurement of a place for a node
@@ -368,7 +368,7 @@ good-update x b g =
 
 -- ---- its image
 
-module _ (mk at : ℕ) (x : State) (g : Good (x .chain)) where
+module _ (mk at : ℕ) (x : Contents) (g : Good (x .chain)) where
   pub good-tree : treeIn (imageOf mk at x) ≡ treeAt (x .chain)
   good-tree = tree-read mk at x (g .shape)
 

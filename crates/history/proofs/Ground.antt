@@ -23,7 +23,7 @@ use Rattle.opening.specs.Rules.{refuses, decide, Command, stashMeasurement, com
 use Rattle.opening.specs.Works.{factsOf}
 use Rattle.opening.proofs.Decided.{commands, NoneApply, decided, negated, short}
 use Rattle.opening.specs.Openings.{viewIn, intact}
-use Rattle.history.specs.Ledger.{Chain, State, treeAt, next, blank, stateOf, imageOf, any, disables, isNone, isDisableCommand, isOff, viewOf}
+use Rattle.history.specs.Ledger.{Chain, Contents, treeAt, next, blank, stateOf, imageOf, any, disables, isNone, isDisableCommand, isOff, viewOf}
 use Rattle.history.specs.Demand.{Shut}
 use Rattle.history.proofs.Encoded.{length-image, mark-read, attestation-read}
 use Rattle.history.proofs.Good.{Good, formed-good, good-tree, matches-good}
@@ -128,7 +128,7 @@ shut-off l h ps n e =
 pub finish : {l : List ℕ} {h : List Task} {t u : Bool} → Ground l h t u → (tk : Task) → Fits h t u tk → 0 < storesAt (stateOf h .chain) tk
     → Ground (apply (planAt l tk) l) (h ++ (tk ∷ [])) t false
 finish {l} {h} (sound g o e) tk f p =
-    sound (subst (λ (x : State). Good (x .chain)) (sym (state-snoc h tk)) (law .keeps (stateOf h .chain) g a))
+    sound (subst (λ (x : Contents). Good (x .chain)) (sym (state-snoc h tk)) (law .keeps (stateOf h .chain) g a))
     (any-snoc disables h tk
     ∙ same-off (any disables h) (any isDisableCommand h) (disables tk) (isDisableCommand tk) o (f .off refl) (by-command (factsOf tk .disables) (isNone (factsOf tk .boot)))
     ∙ sym (any-snoc isDisableCommand h tk))
@@ -188,7 +188,7 @@ rule-same {l} {h} (sound g o e) r = ap (λ (z : List ℕ). ruling (viewIn z) r) 
     a : ℕ
     a = attestationWord (any disables h)
 
-    x : State
+    x : Contents
     x = stateOf h
 
     done : eqb (getD (imageOf 1 a x) markAt 0) 1 ≡ true
@@ -289,7 +289,7 @@ intact-same {l} {h} (sound g o e) =
     a : ℕ
     a = attestationWord (any disables h)
 
-    x : State
+    x : Contents
     x = stateOf h
 
     last : (b : Bool) → (b && true) ≡ b

@@ -12,7 +12,7 @@ use Rattle.work.specs.declared.Put.{Put}
 use Rattle.work.proofs.Plans.{apply}
 use Rattle.opening.specs.Tasks.{Task, noStores, keptBoot, disableCommand, disablingBoot, stash, update, coldBoot}
 use Rattle.opening.specs.Works.{factsOf}
-use Rattle.history.specs.Ledger.{Chain, State, treeAt, nextChain, next, imageOf, disables}
+use Rattle.history.specs.Ledger.{Chain, Contents, treeAt, nextChain, next, imageOf, disables}
 use Rattle.history.proofs.Good.{Good, root-below, holder-below, good-stash, good-update}
 use Rattle.history.proofs.Runs.{planAt, offPlan, command-plan, boot-plan, run-off, run-stash, run-update}
 
@@ -30,7 +30,7 @@ pub record Law (t : Task) : Type 0 where
   -- a good chain stays good
   pub keeps : (x : Chain) → Good x → Allowed x t → Good (nextChain x t)
   -- all its stores, on the image of a state, give the image of the next
-  pub runs : (att : ℕ) (x : State) → Good (x .chain) → Allowed (x .chain) t
+  pub runs : (att : ℕ) (x : Contents) → Good (x .chain) → Allowed (x .chain) t
       → 0 < numberOf (factsOf t .kind (treeAt (x .chain)))
       → apply (planAt (imageOf 1 att x) t) (imageOf 1 att x) ≡ imageOf 1 (cond (disables t) 0 att) (next x t)
   -- its indices are below the number of nodes

@@ -24,7 +24,7 @@ use Rattle.work.proofs.Plans.{apply, storesIn, EveryRun, every-stores, every-at
 use Rattle.opening.specs.Values.{measured, childNode, rootNode}
 use Rattle.opening.specs.Tasks.{BootInputs, Measurement, Task, disableCommand, disablingBoot, stash, update, coldBoot}
 use Rattle.opening.specs.Works.{factsOf, workAt}
-use Rattle.history.specs.Ledger.{Chain, State, treeAt, changed, renewed, nextChain, next, registerRows, nodeRows, imageOf}
+use Rattle.history.specs.Ledger.{Chain, Contents, treeAt, changed, renewed, nextChain, next, registerRows, nodeRows, imageOf}
 use Rattle.history.specs.Demand.{Shut}
 use Rattle.history.proofs.Encoded.{register-read}
 use Rattle.history.proofs.Good.{Good, root-below, root-node, holder-below, holder-node, holder-apart, good-tree, cumulative-read}
@@ -45,7 +45,7 @@ length-at l t = length-plan (workAt l t [])
 
 -- ---- a run of the table, made on the image of a state
 
-module _ (mk att : ℕ) (x : State) (rs : List Run) where
+module _ (mk att : ℕ) (x : Contents) (rs : List Run) where
   mark-run : (v : ℕ) → apply (storesIn (one markAt v ∷ rs)) (imageOf mk att x) ≡ apply (storesIn rs) (imageOf v att x)
   mark-run v = run-one rs (imageOf mk att x) markAt v ∙ ap (apply (storesIn rs)) (store-mark mk att x v)
 
@@ -76,13 +76,13 @@ zero-words : words48 (zeros 48) ≡ zeros registerWords
 unfolding wordsAt tab zeros
 zero-words = refl
 
-abbrev pub disabled : State → State
+abbrev pub disabled : Contents → Contents
 disabled x = withSecret x (zeros 48)
 
 unfoldable pub offPlan : List Put
 offPlan = storesIn disablingRuns
 
-pub run-off : (att : ℕ) (x : State) → apply offPlan (imageOf 1 att x) ≡ imageOf 1 0 (disabled x)
+pub run-off : (att : ℕ) (x : Contents) → apply offPlan (imageOf 1 att x) ≡ imageOf 1 0 (disabled x)
 unfolding offPlan
 run-off att x =
     mark-run 1 att x (drop 1 disablingRuns) 0
@@ -199,7 +199,7 @@ shut-store k l h s = every-at Quiet offPlan (every-stores Quiet disablingRuns qu
 pub counted : (x : Chain) → Good x → Counted x
 counted x g = record { registers = g .shape .registers; nodes = g .shape .nodes }
 
-module _ (att : ℕ) (x : State) (g : Good (x .chain)) (m : Measurement) where
+module _ (att : ℕ) (x : Contents) (g : Good (x .chain)) (m : Measurement) where
   holder : ℕ
   holder = nodeWith nodeCount (treeAt (x .chain)) defaultWords
 
@@ -239,13 +239,13 @@ module _ (att : ℕ) (x : State) (g : Good (x .chain)) (m : Measurement) where
       old : Option Node
       old = changed (withHandle retiredHandle) (getD (x .chain .nodes) holder none)
 
-      x1 : State
+      x1 : Contents
       x1 = withRegister x stashRegister register
 
       c1 : Counted (x1 .chain)
       c1 = counted-register (x .chain) stashRegister register (counted (x .chain) g)
 
-      x2 : State
+      x2 : Contents
       x2 = withNode x1 free (some child)
 
       c2 : Counted (x2 .chain)
@@ -264,7 +264,7 @@ module _ (att : ℕ) (x : State) (g : Good (x .chain)) (m : Measurement) where
 
 -- ---- an update
 
-module _ (att : ℕ) (x : State) (g : Good (x .chain)) (b : BootInputs) where
+module _ (att : ℕ) (x : Contents) (g : Good (x .chain)) (b : BootInputs) where
   root : ℕ
   root = rootIn nodeCount (treeAt (x .chain))
 
@@ -338,22 +338,22 @@ module _ (att : ℕ) (x : State) (g : Good (x .chain)) (b : BootInputs) where
       whole : Node
       whole = withCumulative cumulative half
 
-      x1 : State
+      x1 : Contents
       x1 = withRegister x currentRegister (measured (b .digest))
 
       c1 : Counted (x1 .chain)
       c1 = counted-register (x .chain) currentRegister (measured (b .digest)) (counted (x .chain) g)
 
-      x2 : State
+      x2 : Contents
       x2 = withRegister x1 journeyRegister journey
 
-      x3 : State
+      x3 : Contents
       x3 = withSecret x2 (b .secret)
 
       c3 : Counted (x3 .chain)
       c3 = counted-register (x1 .chain) journeyRegister journey c1
 
-      x4 : State
+      x4 : Contents
       x4 = withNode x3 root (some half)
 
       c4 : Counted (x4 .chain)
@@ -414,7 +414,7 @@ zeros-append : (m n : ℕ) → zeros m ++ zeros n ≡ zeros (m + n)
 unfolding zeros
 zeros-append m n = replicate-append-replicate m n 0
 
-module _ (y : State) (b : BootInputs) where
+module _ (y : Contents) (b : BootInputs) where
   m : List ℕ
   m = words48 (measured (b .digest))
 

@@ -77,13 +77,11 @@ withHand m w b = record { image = m .image; hand = some (record { work = w; boot
 
 -- "An accepted opening's work becomes the one in hand"; a refused one changes nothing
 abbrev pub afterRequest : Machine → Work → Status → Step Machine
-afterRequest m w status.Ready =
-    record { state = withHand m w false; result = opened (kindName (w .kind)) (leftOf w) (take (w .«answer_len») (w .answer)) }
+afterRequest m w status.Ready = record { state = withHand m w false; result = opened (kindName (w .kind)) (leftOf w) (take (w .«answer_len») (w .answer)) }
 afterRequest m w (status.Refused n) = record { state = m; result = refusal n }
 
 abbrev pub afterBoot : Machine → Work → BootStatus → Step Machine
-afterBoot m w (bootStatus.Ready o) =
-    record { state = withHand m w true; result = booted (outcomeNumber o) (kindName (w .kind)) (leftOf w) }
+afterBoot m w (bootStatus.Ready o) = record { state = withHand m w true; result = booted (outcomeNumber o) (kindName (w .kind)) (leftOf w) }
 afterBoot m w (bootStatus.Refused n) = record { state = m; result = refusal n }
 
 -- "With none in hand a store does nothing."
@@ -99,9 +97,7 @@ afterStore m (some h) =
 -- the answer may be taken "as often as wished": nothing changes
 abbrev pub answerTaken : Option Hand → List ℕ → Result
 answerTaken none buffer = noWork
-answerTaken (some h) buffer =
-    let r = answerResult (h .work) buffer in
-    answered (r .number) (r .written) (answerBuffer (h .work) buffer)
+answerTaken (some h) buffer = let r = answerResult (h .work) buffer in answered (r .number) (r .written) (answerBuffer (h .work) buffer)
 
 -- one call. "At a cut every store made stands whole ..; every other word is old; the work in hand goes."
 unfoldable pub step : Machine → Call → Step Machine

@@ -28,7 +28,7 @@ pub record Chain : Type 0 where
   pub registers : List (List ℕ)
   pub nodes : List (Option Node)
 
-pub record State : Type 0 where
+pub record Contents : Type 0 where
   pub secret : List ℕ
   pub chain : Chain
 
@@ -77,14 +77,14 @@ nextChain x (coldBoot b) =
     }
 
 -- and of the secret
-abbrev pub next : State → Task → State
+abbrev pub next : Contents → Task → Contents
 next x t = record { secret = factsOf t .secret (x .secret); chain = nextChain (x .chain) t }
 
 -- before the cold boot, which replaces all of it
-abbrev pub blank : State
+abbrev pub blank : Contents
 blank = record { secret = []; chain = record { registers = []; nodes = [] } }
 
-unfoldable pub stateOf : List Task → State
+unfoldable pub stateOf : List Task → Contents
 stateOf history = foldl next blank history
 
 -- ---- the one encoding to words
@@ -96,7 +96,7 @@ abbrev pub nodeRows : Chain → List ℕ
 nodeRows x = flat (map placeRow (x .nodes))
 
 -- mark, attestation, two zero words, secret, registers, nodes
-unfoldable pub imageOf : ℕ → ℕ → State → List ℕ
+unfoldable pub imageOf : ℕ → ℕ → Contents → List ℕ
 imageOf mark attestation x = (mark ∷ attestation ∷ 0 ∷ 0 ∷ words48 (x .secret)) ++ (registerRows (x .chain) ++ nodeRows (x .chain))
 
 -- ---- the ledger
@@ -140,8 +140,7 @@ chainOf b = stateOf (b .history) .chain
 
 -- "the request rules decide, with the book for the image: unfinished for mark not 1, off for attestation off"
 unfoldable pub viewOf : List Task → Bool → Bool → View
-viewOf history torn unfinished =
-    record { done = not unfinished; on = not (isOff history torn); nodes = treeAt (stateOf history .chain) }
+viewOf history torn unfinished = record { done = not unfinished; on = not (isOff history torn); nodes = treeAt (stateOf history .chain) }
 
 -- "A work that goes, by a cut or another opening, after its first store and before its last is torn and counts as cut."
 abbrev pub tears : Option Job → ℕ → Bool
@@ -150,8 +149,7 @@ tears (some j) made = ltb 0 made && ltb made (j .stores)
 
 -- the work in hand goes
 unfoldable pub letGo : Ledger → Ledger
-letGo b =
-    record { history = b .history; hand = none; made = 0; torn = b .torn || tears (b .hand) (b .made); unfinished = b .unfinished }
+letGo b = record { history = b .history; hand = none; made = 0; torn = b .torn || tears (b .hand) (b .made); unfinished = b .unfinished }
 
 -- a task with its answer, opened at a chain
 abbrev pub jobAt : Chain → Task → List ℕ → Job

@@ -1,9 +1,9 @@
 -- Bytes to words and back (document 01: "packed four to a word, first byte lowest"), both ways. Assumes nothing.
-use Prim.Native.Nat.{ℕ, zero, suc, _+_, _*_, _/_, _%_, _<_, _≤_}
-use mathlib.Core.Path.{_≡_, refl, sym, ap, _∙_}
+use Prim.Native.Nat.{ℕ, zero, suc, _+_, _*_, _/_, _%_, _^_, _<_, _≤_}
+use mathlib.Core.Path.{_≡_, refl, sym, ap, ap₂, _∙_}
 use mathlib.Core.List.{List}
 use native.Mathlib.Omega.{arith}
-use native.Mathlib.Nat.{add-zero, zero-add}
+use native.Mathlib.Nat.{add-zero, zero-add, div-one, div-div-eq-div-mul}
 use lib.ListN.{length, getD, take, drop, length-drop}
 use lib.Seq.{length-take-le, getD-take, getD-drop}
 use Rattle.layout.specs.Words.{le16, le32, byteOf, wordsAt, bytesIn, part}
@@ -72,6 +72,43 @@ bytes-words n b h small = tab-is (λ k. byteOf (getD (wordsAt n b 0) (k / 4) 0) 
         ap (λ (w : ℕ). byteOf w (i % 4)) (getD-words n b 0 q (omega arith) ∙ ap (le32 b) (zero-add (4 * q)))
         ∙ byte q (i % 4) (omega arith)
         ∙ ap (λ (k : ℕ). getD b k 0) (omega arith)
+
+-- from words to bytes and back
+pub words-bytes : (n : ℕ) (ws : List ℕ) → length ws ≡ n → ((i : ℕ) → getD ws i 0 < 2 ^ 32) → wordsAt n (bytesIn (4 * n) ws) 0 ≡ ws
+unfolding wordsAt
+words-bytes n ws h small = tab-is (λ k. le32 (bytesIn (4 * n) ws) (0 + 4 * k)) ws n h at
+  where
+    same : {a b c d e f g h : ℕ} → a ≡ e → b ≡ f → c ≡ g → d ≡ h → a + 256 * b + 65536 * c + 16777216 * d ≡ e + 256 * f + 65536 * g + 16777216 * h
+    same p q r t = omega arith
+
+    digit : (x : ℕ) → x ≡ x % 256 + 256 * (x / 256)
+    digit x = omega arith
+
+    linear : (w p q r a b c : ℕ) → w ≡ a + 256 * p → p ≡ b + 256 * q → q ≡ c + 256 * r → a + 256 * b + 65536 * c + 16777216 * r ≡ w
+    linear w p q r a b c e f g = omega arith
+
+    joined : (w : ℕ) → w < 2 ^ 32 → byteOf w 0 + 256 * byteOf w 1 + 65536 * byteOf w 2 + 16777216 * byteOf w 3 ≡ w
+    joined w l =
+        let p : w / 65536 ≡ w / 256 / 256 = sym (div-div-eq-div-mul w 256 256) in
+        let q : w / 16777216 ≡ w / 256 / 256 / 256 = sym (div-div-eq-div-mul w 65536 256) ∙ ap (λ (x : ℕ). x / 256) p in
+        let top : w / 16777216 % 256 ≡ w / 256 / 256 / 256 = omega (arith, q) in
+        let mid : w / 65536 % 256 ≡ w / 256 / 256 % 256 = ap (λ (x : ℕ). x % 256) p in
+        let low : w / 1 % 256 ≡ w % 256 = ap (λ (x : ℕ). x % 256) (div-one w) in
+        same low refl mid top ∙ linear _ _ _ _ _ _ _ (digit w) (digit (w / 256)) (digit (w / 256 / 256))
+
+    at : (i : ℕ) → i < n → le32 (bytesIn (4 * n) ws) (0 + 4 * i) ≡ getD ws i 0
+    at i l =
+        let get : (j : ℕ) → j < 4 → getD (bytesIn (4 * n) ws) (4 * i + j) 0 ≡ byteOf (getD ws i 0) j =
+        λ j lj.
+        let e : (4 * i + j) / 4 ≡ i = omega arith in
+        let f : (4 * i + j) % 4 ≡ j = omega arith in
+        getD-bytes (4 * n) ws (4 * i + j) (omega arith) ∙ ap₂ (λ (x y : ℕ). byteOf (getD ws x 0) y) e f in
+        let z : 0 + 4 * i ≡ 4 * i = omega arith in
+        let b0 : getD (bytesIn (4 * n) ws) (4 * i) 0 ≡ byteOf (getD ws i 0) 0 = ap (λ (k : ℕ). getD (bytesIn (4 * n) ws) k 0) (omega arith) ∙ get 0 (omega arith) in
+        let b1 = get 1 (omega arith) in
+        let b2 = get 2 (omega arith) in
+        let b3 = get 3 (omega arith) in
+        ap (le32 (bytesIn (4 * n) ws)) z ∙ same b0 b1 b2 b3 ∙ joined (getD ws i 0) (small i)
 
 -- a part that lies within a list
 pub part-within : (n : ℕ) (l : List ℕ) (at : ℕ) → at + n ≤ length l → part n l at ≡ take n (drop at l)

@@ -1,4 +1,4 @@
--- Where each field of the memory image stands, byte strings as words, and numbers below a bound.
+-- Where each field of the memory image stands, as names and as figures; byte strings as words; numbers below a bound; the numbers handed back.
 pub mod Sizes
 pub mod Words
 pub mod Below

@@ -1,7 +1,7 @@
 // Where each field of the memory image stands, words of an image, and byte strings as words.
 //
-// The number of nodes and the words of a node are named here and in specs/Sizes.antt, and nowhere
-// else.
+// The number of nodes and the words of a node are named here and in specs/Sizes.antt. As numerals
+// they stand again only in specs/Figures.antt and on the bench cards, on which no law rests.
 pub mod geometry;
 pub mod image;
 pub mod little_endian;

@@ -1,2 +1,2 @@
--- One call of the machine, as the code has it.
+-- One act of the machine, as the code has it.
 pub mod Call

@@ -1,16 +1,13 @@
 -- The mailbox checksum (document 01, "Mailbox"). Assumes nothing.
-use Prim.Native.Nat.{ℕ, _+_, _-_, _/_, _%_, _^_}
+use Prim.Native.Nat.{ℕ, _+_, _-_, _%_, _^_}
 use mathlib.Core.List.{List, [], _∷_}
+use Rattle.layout.specs.Words.{bytes4}
 
 -- the sum of all bytes
 abbrev pub sumOf : List ℕ → ℕ
 sumOf [] = 0
 sumOf (b ∷ bs) = b + sumOf bs
 
--- the four bytes of a command code, the lowest first
-abbrev pub codeBytes : ℕ → List ℕ
-codeBytes code = code % 256 ∷ code / 2 ^ 8 % 256 ∷ code / 2 ^ 16 % 256 ∷ code / 2 ^ 24 % 256 ∷ []
-
 -- "zero minus the sum of the four code bytes and of every byte after the checksum field, modulo 2^32"
 unfoldable pub checksumOf : ℕ → List ℕ → ℕ
-checksumOf code bytes = (2 ^ 32 - (sumOf (codeBytes code) + sumOf bytes) % 2 ^ 32) % 2 ^ 32
+checksumOf code bytes = (2 ^ 32 - (sumOf (bytes4 code) + sumOf bytes) % 2 ^ 32) % 2 ^ 32

@@ -109,13 +109,7 @@ identityKey =
 -- "0x42534947 verdict no (verify only)"
 abbrev pub verifySignature : Command
 verifySignature =
-    record {
-      known = true;
-      lengthOk = λ b. eqb (length b) 196;
-      rules = λ v r. refuses number.badSignature (not (r .verdict)) ∷ [];
-      task = λ r. noStores;
-      answer = λ r. [];
-    }
+    record { known = true; lengthOk = λ b. eqb (length b) 196; rules = λ v r. refuses number.badSignature (not (r .verdict)) ∷ []; task = λ r. noStores; answer = λ r. [] }
 
 abbrev pub unknownCommand : Command
 unknownCommand = record { known = false; lengthOk = λ b. false; rules = λ v r. []; task = λ r. noStores; answer = λ r. [] }

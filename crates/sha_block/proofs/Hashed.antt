@@ -7,11 +7,11 @@ use native.Mathlib.Numerals.{add-one}
 use native.Mathlib.Omega.{arith}
 use lib.ListN.{length, getD, List·getD-append}
 use lib.Seq.{getD-append-add}
-use Rattle.sha_block.specs.Blocks.{wordAt, wordsAt, blockOf, hashed}
+use Rattle.sha_block.specs.Blocks.{wordAt, blockWords, blockOf, hashed}
 use Rattle.sha_block.specs.declared.state.State.{State}
 
 -- one block more
-pub hashed-more : (k : List ℕ) (h : State) (p w : List ℕ) (q : ℕ) {s r : State} → s ≡ hashed k h p q → w ≡ wordsAt p (q * 128) 16 → r ≡ blockOf k s w → r ≡ hashed k h p (q + 1)
+pub hashed-more : (k : List ℕ) (h : State) (p w : List ℕ) (q : ℕ) {s r : State} → s ≡ hashed k h p q → w ≡ blockWords p (q * 128) 16 → r ≡ blockOf k s w → r ≡ hashed k h p (q + 1)
 hashed-more k h p w q e ew er = rw add-one (er ∙ ap₂ (blockOf k) e ew)
 
 -- words of equal bytes are equal
@@ -28,7 +28,7 @@ same-word s t i j e =
     let e7 = e 7 (omega arith) in
     cc
 
-same-words : (s t : List ℕ) (i j n : ℕ) → ((d : ℕ) → d < n * 8 → getD s (i + d) 0 ≡ getD t (j + d) 0) → wordsAt s i n ≡ wordsAt t j n
+same-words : (s t : List ℕ) (i j n : ℕ) → ((d : ℕ) → d < n * 8 → getD s (i + d) 0 ≡ getD t (j + d) 0) → blockWords s i n ≡ blockWords t j n
 same-words s t i j zero e = refl
 same-words s t i j (suc n) e =
     ap₂ (λ (l : List ℕ) (x : ℕ). l ++ (x ∷ [])) (same-words s t i j n (λ d h. e d (omega arith)))

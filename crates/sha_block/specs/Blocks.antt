@@ -2,7 +2,7 @@
 use Prim.Native.Nat.{ℕ, zero, suc, _+_, _*_}
 use mathlib.Core.List.{List, [], _∷_, _++_}
 use lib.ListN.{getD}
-use Rattle.sha_block.specs.Rounds.{turns, sumOf}
+use Rattle.sha_block.specs.Rounds.{turns, nextHash}
 use Rattle.sha_block.specs.Schedule.{at, schedule}
 use Rattle.sha_block.specs.declared.state.State.{State}
 
@@ -15,15 +15,15 @@ unfoldable pub wordAt : List ℕ → ℕ → ℕ
 wordAt s i = wordOf (getD s i 0) (getD s (i + 1) 0) (getD s (i + 2) 0) (getD s (i + 3) 0) (getD s (i + 4) 0) (getD s (i + 5) 0) (getD s (i + 6) 0) (getD s (i + 7) 0)
 
 -- 5.2.2: n words from the byte i of s on
-abbrev pub wordsAt : List ℕ → ℕ → ℕ → List ℕ
-wordsAt s i zero = []
-wordsAt s i (suc n) = wordsAt s i n ++ (wordAt s (i + n * 8) ∷ [])
+abbrev pub blockWords : List ℕ → ℕ → ℕ → List ℕ
+blockWords s i zero = []
+blockWords s i (suc n) = blockWords s i n ++ (wordAt s (i + n * 8) ∷ [])
 
 -- 6.4.2: the hash value after one block of sixteen words m: eighty rounds over the schedule, and the sum with the value before
 unfoldable pub blockOf : List ℕ → State → List ℕ → State
-blockOf k h m = sumOf h (turns (at k) (at (schedule 64 m)) 80 h)
+blockOf k h m = nextHash h (turns (at k) (at (schedule 64 m)) 80 h)
 
 -- 6.4.2: the hash value after the first n blocks, of 128 bytes each, of p
 abbrev pub hashed : List ℕ → State → List ℕ → ℕ → State
 hashed k h p zero = h
-hashed k h p (suc n) = blockOf k (hashed k h p n) (wordsAt p (n * 128) 16)
+hashed k h p (suc n) = blockOf k (hashed k h p n) (blockWords p (n * 128) 16)

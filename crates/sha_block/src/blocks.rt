@@ -7,7 +7,7 @@ ghost use Prim.Native.Nat.{_+_, _/_, _≤_};
 ghost use lib.ListN.{length};
 ghost use Rattle.sha_block.specs.Rounds.{turns};
 ghost use Rattle.sha_block.specs.Schedule.{at, schedule};
-ghost use Rattle.sha_block.specs.Blocks.{wordOf, wordAt, wordsAt, blockOf, hashed};
+ghost use Rattle.sha_block.specs.Blocks.{wordOf, wordAt, blockWords, blockOf, hashed};
 use crate::rounds::next;
 use crate::rounds::round;
 use crate::rounds::sum;
@@ -86,7 +86,7 @@ fn word_at(s: &[u8], i: usize) -> u64
 // The sixteen words of the block that starts at the byte `at`.
 fn load(s: &[u8], at: usize) -> [u64; 16]
     requires { ⌜ at + 128 ≤ length (now s) ⌝ }
-    ensures { λ r. ⌜ r ≡ wordsAt (now (s .entry)) at 16 ⌝ }
+    ensures { λ r. ⌜ r ≡ blockWords (now (s .entry)) at 16 ⌝ }
 {
     let mut w = [0u64; 16];
     let mut i = 0;

@@ -1,7 +1,7 @@
 // One round, the next word of the schedule, and the sum that ends a block (FIPS 180-4, 6.4.2).
 // Every sum wraps at 64 bits.
 ghost use mathlib.Core.Path.{_≡_};
-ghost use Rattle.sha_block.specs.Rounds.{T1, T2, roundOf, sumOf};
+ghost use Rattle.sha_block.specs.Rounds.{T1, T2, roundOf, nextHash};
 ghost use Rattle.sha_block.specs.Schedule.{nextOf};
 use crate::state::State;
 use crate::words::big0;
@@ -46,7 +46,7 @@ pub(crate) fn round(s: State, k: u64, w: u64) -> State
 }
 
 pub(crate) fn sum(x: State, y: State) -> State
-    ensures { λ r. ⌜ r ≡ sumOf x y ⌝ }
+    ensures { λ r. ⌜ r ≡ nextHash x y ⌝ }
 {
     let a = wrapping_add_u64(x.a, y.a);
     let b = wrapping_add_u64(x.b, y.b);

@@ -51,16 +51,7 @@ placeRow (some n) = nodeRow n
 -- a node that a boot or a stash makes: tag 0, default handle
 abbrev pub newNode : ℕ → ℕ → List ℕ → List ℕ → ℕ → ℕ → Node
 newNode parent flags current cumulative type locality =
-    record {
-      parent = parent;
-      tag = 0;
-      handle = defaultHandle;
-      flags = flags;
-      current = current;
-      cumulative = cumulative;
-      type = type;
-      locality = locality;
-    }
+    record { parent = parent; tag = 0; handle = defaultHandle; flags = flags; current = current; cumulative = cumulative; type = type; locality = locality }
 
 -- a root's new measurements in the places that they have in a node; the other words are zero
 abbrev pub measurementsRow : List ℕ → List ℕ → List ℕ
@@ -85,15 +76,7 @@ withCumulative v n =
 abbrev pub placeOf : Option Node → Place
 placeOf none = freePlace
 placeOf (some n) =
-    record {
-      used = true;
-      blank = false;
-      parent = n .parent;
-      handle = handleRow (n .handle);
-      flags = n .flags;
-      type = n .type;
-      locality = n .locality;
-    }
+    record { used = true; blank = false; parent = n .parent; handle = handleRow (n .handle); flags = n .flags; type = n .type; locality = n .locality }
 
 abbrev pub treeOf : List (Option Node) → Tree
 treeOf ns = λ i. placeOf (getD ns i none)

@@ -9,6 +9,7 @@ use lib.Seq.{paste}
 use Rattle.layout.specs.Sizes.{imageWords, answerMax}
 use Rattle.layout.specs.Refusals.{wrongImage, storesLeft, shortBuffer, noStoreLeft}
 use Rattle.work.specs.Table.{numberOf, putOf, indexOk}
+use Rattle.work.specs.declared.Kind.{Kind}
 use Rattle.work.specs.declared.Work.{Work}
 use Rattle.work.specs.declared.Stored.{Stored}
 use Rattle.work.specs.declared.Answered.{Answered}
@@ -21,19 +22,14 @@ wellShaped w = indexOk (w .kind) && (leb (w .«answer_len») answerMax && leb (w
 unfoldable pub leftOf : Work → ℕ
 leftOf w = cond (wellShaped w) (numberOf (w .kind) - w .position) 0
 
+-- a work of its parts
+abbrev pub workOf : Kind → ℕ → (register journey node secret answer : List ℕ) → ℕ → Work
+workOf k position register journey node secret answer n =
+    record { kind = k; position = position; register = register; journey = journey; node = node; secret = secret; answer = answer; «answer_len» = n }
+
 -- "hands it back": the same work with its position one store on
 abbrev pub moved : Work → Work
-moved w =
-    record {
-      kind = w .kind;
-      position = w .position + 1;
-      register = w .register;
-      journey = w .journey;
-      node = w .node;
-      secret = w .secret;
-      answer = w .answer;
-      «answer_len» = w .«answer_len»;
-    }
+moved w = workOf (w .kind) (w .position + 1) (w .register) (w .journey) (w .node) (w .secret) (w .answer) (w .«answer_len»)
 
 -- "store: 1; 9 no store left"; success is 0
 unfoldable pub storeNumber : Work → List ℕ → ℕ
@@ -41,10 +37,7 @@ storeNumber w image = cond (eqb (length image) imageWords) (cond (ltb 0 (leftOf 
 
 -- the number, and the work: one store on, or unchanged
 unfoldable pub storeResult : Work → List ℕ → Stored
-storeResult w image =
-    cond (eqb (storeNumber w image) 0)
-    (record { number = 0; work = moved w })
-    (record { number = storeNumber w image; work = w })
+storeResult w image = cond (eqb (storeNumber w image) 0) (record { number = 0; work = moved w }) (record { number = storeNumber w image; work = w })
 
 -- "One call makes exactly one store: one word takes one value ..; every other word stays"; refused, every word stays
 unfoldable pub storeImage : Work → List ℕ → List ℕ
@@ -59,11 +52,7 @@ unfoldable pub answerNumber : Work → ℕ → ℕ
 answerNumber w n = cond (not (finished w)) storesLeft (cond (ltb n (w .«answer_len»)) shortBuffer 0)
 
 unfoldable pub answerResult : Work → List ℕ → Answered
-answerResult w buffer =
-    record {
-      number = answerNumber w (length buffer);
-      written = cond (eqb (answerNumber w (length buffer)) 0) (w .«answer_len») 0;
-    }
+answerResult w buffer = record { number = answerNumber w (length buffer); written = cond (eqb (answerNumber w (length buffer)) 0) (w .«answer_len») 0 }
 
 -- the buffer afterwards: the answer, and "bytes past the answer stay"; refused, every byte stays
 unfoldable pub answerBuffer : Work → List ℕ → List ℕ

@@ -9,6 +9,7 @@ use Rattle.work.specs.declared.Kind.the-variants.{Nothing}
 use Rattle.work.specs.declared.Work.{Work}
 use Rattle.work.specs.declared.make.Values.{Values}
 use Rattle.work.specs.declared.make.Answer.{Answer}
+use Rattle.work.specs.Entries.{workOf}
 
 -- words that a kind does not store are zero
 abbrev pub noValues : Values
@@ -22,17 +23,7 @@ abbrev pub noAnswer : Answer
 noAnswer = record { bytes = zeros answerMax; len = 0 }
 
 abbrev pub madeWork : Kind → ℕ → Values → Answer → Work
-madeWork k position v a =
-    record {
-      kind = k;
-      position = position;
-      register = v .register;
-      journey = v .journey;
-      node = v .node;
-      secret = v .secret;
-      answer = a .bytes;
-      «answer_len» = a .len;
-    }
+madeWork k position v a = workOf k position (v .register) (v .journey) (v .node) (v .secret) (a .bytes) (a .len)
 
 -- a work of which no store is made, with the answer a
 unfoldable pub workWith : Kind → Values → List ℕ → Work

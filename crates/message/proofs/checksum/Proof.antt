@@ -1,7 +1,9 @@
 -- The four digits base 256 of the code fit 32 bits; the rest is modulo 2^32 on both sides.
 
 use native.Mathlib.Omega.{arith}
-use Rattle.message.specs.Checksum.{sumOf, codeBytes, checksumOf}
+use native.Mathlib.Nat.{div-one}
+use Rattle.layout.specs.Words.{bytes4}
+use Rattle.message.specs.Checksum.{sumOf, checksumOf}
 use Rattle.message.proofs.Sums.{negated}
 use mathlib.Core.Path.{_∙_}
 use borrow.Author.Needs.{needs}
@@ -28,7 +30,11 @@ wrapping-sub-u32-requires c κs = search needs
 
 returns : tie.Need-returns
 unfolding checksumOf
-returns c = negated (sumOf (codeBytes (c .before .before .before .before .args .code))) (sumOf (c .before .before .before .before .args .bytes .now)) (c .before .before .sum-bytes .result) (c .before .wrapping-add-u32 .result) (c .wrapping-sub-u32 .result) (c .before .before .sum-bytes .ensures) (c .before .wrapping-add-u32 .ensures ∙ omega arith) (c .wrapping-sub-u32 .ensures) (omega arith)
+returns c =
+    let code = c .before .before .before .before .args .code in
+    negated (sumOf (bytes4 code)) (sumOf (c .before .before .before .before .args .bytes .now)) (c .before .before .sum-bytes .result)
+    (c .before .wrapping-add-u32 .result) (c .wrapping-sub-u32 .result) (c .before .before .sum-bytes .ensures)
+    (c .before .wrapping-add-u32 .ensures ∙ omega (arith, div-one code)) (c .wrapping-sub-u32 .ensures) (omega (arith, div-one code))
 
 pub checksum-spec : {M : Type 1} → statement M
 checksum-spec =

@@ -3,7 +3,7 @@
 use mathlib.Core.Path.{sym, ap, _∙_}
 use Prim.Native.Nat.{_+_}
 use denote.Ref.{now}
-use Rattle.sha_block.specs.Rounds.{turns, sumOf}
+use Rattle.sha_block.specs.Rounds.{turns, nextHash}
 use Rattle.sha_block.specs.Schedule.{at, schedule}
 use Rattle.sha_block.specs.Blocks.{blockOf}
 use Rattle.sha_block.proofs.Turns.{turns-add}
@@ -27,7 +27,7 @@ returns c =
     let K = at (now (g .args .k)) in
     let W = at (schedule 64 (g .args .m)) in
     c .sum .ensures
-    ∙ ap (sumOf (g .args .h))
+    ∙ ap (nextHash (g .args .h))
     (c .before .ring-rounds .ensures ∙ ap (turns (λ j. K (16 + j)) (λ j. W (16 + j)) 64) (c .before .before .first-rounds .ensures) ∙ sym (turns-add K W 16 64 (g .args .h)))
 
 pub compress-spec : {M : Type 1} → statement M

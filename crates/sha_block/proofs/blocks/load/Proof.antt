@@ -5,13 +5,13 @@ use Prim.Native.Nat.{_-_, _≤_}
 use native.Mathlib.Omega.{arith}
 use lib.ListN.{length, take, length-set}
 use denote.Ref.{now}
-use Rattle.sha_block.specs.Blocks.{wordsAt}
+use Rattle.sha_block.specs.Blocks.{blockWords}
 use Rattle.sha_block.proofs.Loading.{words-more, words-all}
 use Rattle.sha_block.proofs.blocks.load.Statement.{statement}
 use Rattle.sha_block.proofs.blocks.load.Tie as tie
 
 abbrev Inv-loop : tie.InvT-loop
-Inv-loop s at w₀ i₀ w i = (i ≤ 16) × (length w ≡ 16) × (take i w ≡ wordsAt s at i)
+Inv-loop s at w₀ i₀ w i = (i ≤ 16) × (length w ≡ 16) × (take i w ≡ blockWords s at i)
 
 abbrev μ-loop : tie.MeasureT-loop
 μ-loop s at w₀ i₀ w i = 16 - i

@@ -1,6 +1,6 @@
 -- Eight additions modulo 2^64.
 
-use Rattle.sha_block.specs.Rounds.{sumOf}
+use Rattle.sha_block.specs.Rounds.{nextHash}
 use borrow.Author.Needs.{needs}
 use Rattle.sha_block.proofs.rounds.sum.Statement.{statement}
 use Rattle.sha_block.proofs.rounds.sum.Tie as tie
@@ -30,7 +30,7 @@ wrapping-add-u64-requires-8 : tie.Need-wrapping-add-u64-requires-8
 wrapping-add-u64-requires-8 c κs = search needs
 
 returns : tie.Need-returns
-unfolding sumOf
+unfolding nextHash
 returns c = cc
 
 pub sum-spec : {M : Type 1} → statement M
