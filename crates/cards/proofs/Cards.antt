@@ -40,12 +40,14 @@ cards =
       card3 = unfold checksumOf zeros in refl;
       card4 = λ image r s q. declines-off image r q s;
       card5 = unfold checksumOf in refl;
-      card6 = λ image s. wrong-size image (ne-eqb (length image) imageWords (λ (z : length image ≡ imageWords). ⊎-elim (λ e. omega arith) (λ e. omega arith) s));
+      card6 =
+          λ image s. wrong-size image (ne-eqb (length image) imageWords (λ (z : length image ≡ imageWords). ⊎-elim (λ e. omega arith) (λ e. omega arith) s));
       card7 = root-word;
       card8 = λ image. own-parent nodeCount (treeIn image) (omega arith);
       image8 = (loop-used, loop-parent, own-parent nodeCount (treeIn ownParentImage) (omega arith) 1 (omega arith) loop-used loop-parent);
       card9 = λ image r s q. (λ e. accepts image r q s (omega arith), λ e. declines image r q s e);
       images9 = λ k l h. (serving k l h, used-count k l h);
-      accepted9 = accepts (imageWith 23) zeroStash zero-stash (serving 23 (omega arith) (omega arith)) (omega (arith, used-count 23 (omega arith) (omega arith)));
+      accepted9 =
+          accepts (imageWith 23) zeroStash zero-stash (serving 23 (omega arith) (omega arith)) (omega (arith, used-count 23 (omega arith) (omega arith)));
       declined9 = declines (imageWith 24) zeroStash zero-stash (serving 24 (omega arith) (omega arith)) (used-count 24 (omega arith) (omega arith));
     }

@@ -52,7 +52,8 @@ filled-find : (t : Tree) (k : ℕ) → k < nodeCount → Filled t k → lowestFr
 filled-find t k l f = elim (decLt (lowestFree nodeCount t) k) [
   | yes b ↦ absurd (true≢false (sym (f .low (lowestFree nodeCount t) b) ∙ free-there nodeCount t (omega arith)))
   | no b ↦ elim (decLt k (lowestFree nodeCount t)) [
-    | yes c ↦ absurd (true≢false (sym (negated (t k .used) (unfold lowestFree in (first-lowest (λ i. not (t i .used)) nodeCount 0 k (omega arith) c))) ∙ f .high k (omega arith)))
+    | yes c ↦ absurd (true≢false
+        (sym (negated (t k .used) (unfold lowestFree in (first-lowest (λ i. not (t i .used)) nodeCount 0 k (omega arith) c))) ∙ f .high k (omega arith)))
     | no c ↦ omega arith
   ]
 ]

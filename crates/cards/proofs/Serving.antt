@@ -80,7 +80,8 @@ module _ (m : List ℕ) (r : Request) (q : StashRequest r) where
 
   module _ (s : Serving m) where
     -- the task and the dpe result, by "no node is free"
-    ruled : (b : Bool) → leb nodeCount (lowestFree nodeCount (treeIn m)) ≡ b → openRequest m r ≡ openedOf m (accepted (cond b noStores task) (answer (cond b 1 0)))
+    ruled : (b : Bool) → leb nodeCount (lowestFree nodeCount (treeIn m)) ≡ b
+        → openRequest m r ≡ openedOf m (accepted (cond b noStores task) (answer (cond b 1 0)))
     unfolding openRequest viewIn
     ruled true e = rw (sum-fits, s .size, s .done, q .code, q .size, s .on, s .formed, e)
     ruled false e = rw (sum-fits, s .size, s .done, q .code, q .size, s .on, s .formed, e)
@@ -91,7 +92,10 @@ module _ (m : List ℕ) (r : Request) (q : StashRequest r) where
     left : usedNodes m < nodeCount → leftOf (workAt m task (answer 0)) ≡ numberOf (Stash place)
     unfolding place workAt workWith leftOf wellShaped indexOk numberOf answerOf
     left h =
-        rw (lt-ltb (lowestFree nodeCount (treeIn m)) nodeCount (room m h), lt-ltb (nodeWith nodeCount (treeIn m) defaultWords) nodeCount (holder-only nodeCount (treeIn m) (s .formed) .below))
+        rw (
+          lt-ltb (lowestFree nodeCount (treeIn m)) nodeCount (room m h),
+          lt-ltb (nodeWith nodeCount (treeIn m) defaultWords) nodeCount (holder-only nodeCount (treeIn m) (s .formed) .below),
+        )
 
     pub accepts : usedNodes m < nodeCount → Accepted (openRequest m r)
     unfolding place workAt workWith

@@ -18,7 +18,8 @@ use Rattle.flat.proofs.Rows.{row-register, row-journey, row-node, row-s
 pub joined-back : (n : ℕ) → joinedOf (lowOf n) (highOf n) ≡ n
 joined-back n = omega arith
 
-kind-back : (k : Kind) → kindOf (kindNumber k) (joinedOf (lowOf (firstIndex k)) (highOf (firstIndex k))) (joinedOf (lowOf (secondIndex k)) (highOf (secondIndex k))) ≡ k
+kind-back : (k : Kind)
+    → kindOf (kindNumber k) (joinedOf (lowOf (firstIndex k)) (highOf (firstIndex k))) (joinedOf (lowOf (secondIndex k)) (highOf (secondIndex k))) ≡ k
 unfolding kindOf kindNumber firstIndex secondIndex
 kind-back Nothing = refl
 kind-back Disabling = refl
@@ -61,26 +62,32 @@ module _ (w : Work) (t : Typed w) where
   register-back : part registerWords (workWords w) registerIn ≡ w .register
   unfolding workWords
   register-back = part-back registerWords registerIn _ (w .register) (t .register-long)
-      (row-register (headOf w) (w .register) (w .journey) (w .node) (w .secret) (wordsAt answerWords (w .answer) 0) nine (t .register-long) (t .journey-long) (t .node-long) (t .secret-long) (length-words answerWords (w .answer) 0))
+      (row-register (headOf w) (w .register) (w .journey) (w .node) (w .secret) (wordsAt answerWords (w .answer) 0) nine (t .register-long) (t .journey-long)
+      (t .node-long) (t .secret-long) (length-words answerWords (w .answer) 0))
 
   journey-back : part registerWords (workWords w) journeyIn ≡ w .journey
   unfolding workWords
   journey-back = part-back registerWords journeyIn _ (w .journey) (t .journey-long)
-      (row-journey (headOf w) (w .register) (w .journey) (w .node) (w .secret) (wordsAt answerWords (w .answer) 0) nine (t .register-long) (t .journey-long) (t .node-long) (t .secret-long) (length-words answerWords (w .answer) 0))
+      (row-journey (headOf w) (w .register) (w .journey) (w .node) (w .secret) (wordsAt answerWords (w .answer) 0) nine (t .register-long) (t .journey-long)
+      (t .node-long) (t .secret-long) (length-words answerWords (w .answer) 0))
 
   node-back : part nodeWords (workWords w) nodeIn ≡ w .node
   unfolding workWords
   node-back = part-back nodeWords nodeIn _ (w .node) (t .node-long)
-      (row-node (headOf w) (w .register) (w .journey) (w .node) (w .secret) (wordsAt answerWords (w .answer) 0) nine (t .register-long) (t .journey-long) (t .node-long) (t .secret-long) (length-words answerWords (w .answer) 0))
+      (row-node (headOf w) (w .register) (w .journey) (w .node) (w .secret) (wordsAt answerWords (w .answer) 0) nine (t .register-long) (t .journey-long)
+      (t .node-long) (t .secret-long) (length-words answerWords (w .answer) 0))
 
   secret-back : part registerWords (workWords w) secretIn ≡ w .secret
   unfolding workWords
   secret-back = part-back registerWords secretIn _ (w .secret) (t .secret-long)
-      (row-secret (headOf w) (w .register) (w .journey) (w .node) (w .secret) (wordsAt answerWords (w .answer) 0) nine (t .register-long) (t .journey-long) (t .node-long) (t .secret-long) (length-words answerWords (w .answer) 0))
+      (row-secret (headOf w) (w .register) (w .journey) (w .node) (w .secret) (wordsAt answerWords (w .answer) 0) nine (t .register-long) (t .journey-long)
+      (t .node-long) (t .secret-long) (length-words answerWords (w .answer) 0))
 
   answer-at : (j : ℕ) → answerIn ≤ j → getD (workWords w) j 0 ≡ getD (wordsAt answerWords (w .answer) 0) (j - answerIn) 0
   unfolding workWords
-  answer-at = row-answer (headOf w) (w .register) (w .journey) (w .node) (w .secret) (wordsAt answerWords (w .answer) 0) nine (t .register-long) (t .journey-long) (t .node-long) (t .secret-long) (length-words answerWords (w .answer) 0)
+  answer-at =
+      row-answer (headOf w) (w .register) (w .journey) (w .node) (w .secret) (wordsAt answerWords (w .answer) 0) nine (t .register-long) (t .journey-long)
+      (t .node-long) (t .secret-long) (length-words answerWords (w .answer) 0)
 
   answer-back : answerOf (workWords w) ≡ w .answer
   unfolding answerOf
@@ -114,4 +121,18 @@ module _ (w : Work) (t : Typed w) where
 
   pub work-back : workOf (workWords w) ≡ w
   unfolding workOf
-  work-back = rw (at0, at1, at3, at5, at7, kind-back (w .kind), position-back (w .kind) (w .position), register-back, journey-back, node-back, secret-back, answer-back)
+  work-back =
+      rw (
+        at0,
+        at1,
+        at3,
+        at5,
+        at7,
+        kind-back (w .kind),
+        position-back (w .kind) (w .position),
+        register-back,
+        journey-back,
+        node-back,
+        secret-back,
+        answer-back,
+      )

@@ -48,7 +48,8 @@ boots-wrong l n b h =
       outcome-is = rw (ne-eqb (length l) workSize h);
     }
 
-pub boots-refused : (l : List ℕ) (before : ℕ) (b : Booted) (n m : ℕ) → length l ≡ workSize → b .status ≡ bootStatus.Refused m → n ≡ bootNumber (b .status) → BootsAs l l before before n b
+pub boots-refused : (l : List ℕ) (before : ℕ) (b : Booted) (n m : ℕ) → length l ≡ workSize → b .status ≡ bootStatus.Refused m
+    → n ≡ bootNumber (b .status) → BootsAs l l before before n b
 boots-refused l before b n m h s e =
     record {
       number-is = rw (eq-eqb (length l) workSize h) e;

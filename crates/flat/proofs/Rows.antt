@@ -30,11 +30,13 @@ module _ (head register journey node secret answer : List ℕ) (h0 : length head
     unfolding rowOf
     row-head j l = List·getD-append head (register ++ (journey ++ (node ++ (secret ++ answer)))) 0 j (omega arith)
 
-    from1 : (j : ℕ) → registerIn ≤ j → getD (rowOf head register journey node secret answer) j 0 ≡ getD (register ++ (journey ++ (node ++ (secret ++ answer)))) (j - registerIn) 0
+    from1 : (j : ℕ) → registerIn ≤ j
+        → getD (rowOf head register journey node secret answer) j 0 ≡ getD (register ++ (journey ++ (node ++ (secret ++ answer)))) (j - registerIn) 0
     unfolding rowOf
     from1 j l = skip registerIn head (register ++ (journey ++ (node ++ (secret ++ answer)))) j h0 l
 
-    from2 : (j : ℕ) → journeyIn ≤ j → getD (rowOf head register journey node secret answer) j 0 ≡ getD (journey ++ (node ++ (secret ++ answer))) (j - journeyIn) 0
+    from2 : (j : ℕ) → journeyIn ≤ j
+        → getD (rowOf head register journey node secret answer) j 0 ≡ getD (journey ++ (node ++ (secret ++ answer))) (j - journeyIn) 0
     from2 j l = from1 j (omega arith) ∙ next registerIn registerWords register (journey ++ (node ++ (secret ++ answer))) j h1 l
 
     from3 : (j : ℕ) → nodeIn ≤ j → getD (rowOf head register journey node secret answer) j 0 ≡ getD (node ++ (secret ++ answer)) (j - nodeIn) 0

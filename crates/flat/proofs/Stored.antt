@@ -30,7 +30,8 @@ use Rattle.flat.specs.Forms.{storeNumberIn, withPosition, storeWords, st
 use Rattle.flat.proofs.Back.{joined-back}
 
 -- the parts of the work, read where they stand
-module _ (l : List ℕ) (h : length l ≡ workSize) (kind : Kind) (p n : ℕ) (a : kind ≡ workOf l .kind) (b : p ≡ workOf l .position) (c : n ≡ workOf l .«answer_len») where
+module _ (l : List ℕ) (h : length l ≡ workSize) (kind : Kind) (p n : ℕ) (a : kind ≡ workOf l .kind) (b : p ≡ workOf l .position)
+    (c : n ≡ workOf l .«answer_len») where
   abbrev pub partsIn : Work
   partsIn =
       storing kind p n (take registerWords (drop registerIn l)) (take registerWords (drop journeyIn l)) (take nodeWords (drop nodeIn l))
@@ -124,7 +125,8 @@ module _ (l : List ℕ) (h : length l ≡ workSize) (p : ℕ) where
 module _ (l : List ℕ) where
   no-kind : (n a b : ℕ) → 5 ≤ n → kindOf n a b ≡ Nothing
   unfolding kindOf
-  no-kind n a b g = rw (ne-eqb n 1 (λ e. omega (arith, e)), ne-eqb n 2 (λ e. omega (arith, e)), ne-eqb n 3 (λ e. omega (arith, e)), ne-eqb n 4 (λ e. omega (arith, e)))
+  no-kind n a b g =
+      rw (ne-eqb n 1 (λ e. omega (arith, e)), ne-eqb n 2 (λ e. omega (arith, e)), ne-eqb n 3 (λ e. omega (arith, e)), ne-eqb n 4 (λ e. omega (arith, e)))
 
   no-number : 5 ≤ getD l 0 0 → numberOf (workOf l .kind) ≡ 0
   unfolding workOf

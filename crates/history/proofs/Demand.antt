@@ -50,7 +50,9 @@ module _ (l : List ℕ) (h : List Task) (g : Good (stateOf h .chain)) (e : l ≡
       record {
         mark = ap (λ (y : List ℕ). getD y markAt 0) e ∙ mark-read 1 a s ∙ sym (rw u);
         attestation = attestation-word ∙ sym (rw (q, p));
-        registers = ap (λ (y : List ℕ). take (registerCount * registerWords) (drop registersAt y)) e ∙ registers-part 1 a s (counted (s .chain) g) ∙ ap (λ (y : List Task). registerRows (stateOf y .chain)) (sym p);
+        registers =
+            ap (λ (y : List ℕ). take (registerCount * registerWords) (drop registersAt y)) e ∙ registers-part 1 a s (counted (s .chain) g)
+            ∙ ap (λ (y : List Task). registerRows (stateOf y .chain)) (sym p);
         nodes = ap (drop nodesAt) e ∙ nodes-part 1 a s (counted (s .chain) g) ∙ ap (λ (y : List Task). nodeRows (stateOf y .chain)) (sym p);
         secret = ap (λ (y : List ℕ). part registerWords y secretAt) e ∙ secret-read 1 a s ∙ ap (λ (y : List Task). words48 (stateOf y .secret)) (sym p);
       }
@@ -61,7 +63,8 @@ module _ (l : List ℕ) (h : List Task) (g : Good (stateOf h .chain)) (e : l ≡
       s : Contents
       s = stateOf h
 
-counted-ground : {l : List ℕ} {b : Ledger} {h : List Task} {t u : Bool} → Ground l h t u → b .history ≡ h → b .torn ≡ t → b .unfinished ≡ u → t ≡ false → AsCounted l b
+counted-ground : {l : List ℕ} {b : Ledger} {h : List Task} {t u : Bool} → Ground l h t u → b .history ≡ h → b .torn ≡ t → b .unfinished ≡ u → t ≡ false
+    → AsCounted l b
 counted-ground {l} {b} {h} (sound g o e) p q r z = counted-sound l h g e b p q r
 counted-ground (locked n m s) p q r z = absurd (true≢false z)
 counted-ground (broken n m) p q r z = absurd (true≢false z)
@@ -163,7 +166,8 @@ store-cases P b j more none-left = go (ltb (b .made) (j .stores)) (eqb (suc (b .
     made h u n = record { state = record { history = h; hand = some j; made = suc (b .made); torn = b .torn; unfinished = u }; result = stored n }
 
     go : (x y : Bool)
-        → P (cond x (cond y (made (b .history ++ (j .task ∷ [])) false 0) (made (b .history) true (j .stores - suc (b .made)))) (record { state = b; result = refusal number.noStoreLeft }))
+        → P (cond x (cond y (made (b .history ++ (j .task ∷ [])) false 0) (made (b .history) true (j .stores - suc (b .made))))
+        (record { state = b; result = refusal number.noStoreLeft }))
     go true true = more (b .history ++ (j .task ∷ [])) false 0
     go true false = more (b .history) true (j .stores - suc (b .made))
     go false y = none-left
@@ -200,7 +204,8 @@ unfolding stateOf
 cold-history x = refl
 
 -- the image after an accepted cold boot
-pub cold-image : (before : List ℕ) (x : BootInputs) → bootNumber (openColdBoot before x .status) ≡ 0 → coldBooted before x ≡ imageOf 1 1 (next blank (coldBoot x))
+pub cold-image : (before : List ℕ) (x : BootInputs) → bootNumber (openColdBoot before x .status) ≡ 0
+    → coldBooted before x ≡ imageOf 1 1 (next blank (coldBoot x))
 unfolding openColdBoot coldBooted planAt
 cold-image before x e = go (eqb (length before) imageWords) refl (inputsOk x) e
   where
@@ -212,7 +217,8 @@ cold-image before x e = go (eqb (length before) imageWords) refl (inputsOk x) e
 
     -- the image's size, and the inputs
     go : (a : Bool) → eqb (length before) imageWords ≡ a → (b : Bool)
-        → bootNumber (bootedOf before (cond (not a) (refused number.wrongImage) (cond (not b) (refused number.wrongInputs) (accepted (coldBoot x) []))) .status) ≡ 0
+        → bootNumber
+        (bootedOf before (cond (not a) (refused number.wrongImage) (cond (not b) (refused number.wrongInputs) (accepted (coldBoot x) []))) .status) ≡ 0
         → (let o = bootedOf before (cond (not a) (refused number.wrongImage) (cond (not b) (refused number.wrongInputs) (accepted (coldBoot x) []))) in
         storedBy before (o .work) (o .status) ≡ imageOf 1 1 (next blank (coldBoot x)))
     go true p true q = image (eqb-true (length before) imageWords p)
@@ -221,7 +227,8 @@ cold-image before x e = go (eqb (length before) imageWords) refl (inputsOk x) e
 
 pub cold-start : (before : List ℕ) (x : BootInputs) → bootNumber (openColdBoot before x .status) ≡ 0 → Related (afterColdBoot before x) (firstLedger x)
 cold-start before x e =
-    empty (sound (subst (λ (y : Contents). Good (y .chain)) (sym (cold-history x)) (good-cold (blank .chain) x)) refl (cold-image before x e ∙ ap (imageOf 1 1) (sym (cold-history x))))
+    empty (sound (subst (λ (y : Contents). Good (y .chain)) (sym (cold-history x)) (good-cold (blank .chain) x)) refl
+    (cold-image before x e ∙ ap (imageOf 1 1) (sym (cold-history x))))
 
 -- ---- demand 3
 
@@ -233,7 +240,8 @@ same-results (c ∷ cs) m b i = λ j. sim m b c i .result j ∷ same-results cs 
 kept-end : (m : Machine) (b : Ledger) (c : Call) → Related m b → endsBoot (step m c) ≡ true → Kept (step m c .state .image) (ledgerStep b c .state)
 kept-end m b c i x = kept-ground (quiet .0) (quiet .1) refl refl refl
   where
-    quiet : Ground (step m c .state .image) (ledgerStep b c .state .history) (ledgerStep b c .state .torn) (ledgerStep b c .state .unfinished) × (ledgerStep b c .state .unfinished ≡ false)
+    quiet : Ground (step m c .state .image) (ledgerStep b c .state .history) (ledgerStep b c .state .torn)
+        (ledgerStep b c .state .unfinished) × (ledgerStep b c .state .unfinished ≡ false)
     quiet = settled (sim m b c i .related) (and-right (wasAccepted (step m c .result)) (bootEnded (step m c .state .hand)) x)
 
 -- any list, from a machine and a ledger that are in step

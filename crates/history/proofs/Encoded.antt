@@ -84,14 +84,22 @@ module _ (mk at : ℕ) (x : Contents) (h : Shape (x .chain)) where
   unfolding imageOf front
   length-image =
       length-append (front mk at x) (registerRows (x .chain) ++ nodeRows (x .chain))
-      ∙ omega (arith, length-front mk at x, length-append (registerRows (x .chain)) (nodeRows (x .chain)), length-registers (x .chain) (h .registers), length-nodes (x .chain) (h .nodes))
+      ∙ omega (
+        arith,
+        length-front mk at x,
+        length-append (registerRows (x .chain)) (nodeRows (x .chain)),
+        length-registers (x .chain) (h .registers),
+        length-nodes (x .chain) (h .nodes),
+      )
 
   pub register-words : (i : ℕ) → i < registerCount → part registerWords (imageOf mk at x) (registerAt i) ≡ words48 (getD (x .chain .registers) i [])
   unfolding imageOf part front
   register-words i l =
       tab-is (λ k. getD (imageOf mk at x) (registerAt i + k) 0) (words48 (getD rs i [])) registerWords (length48 (getD rs i []))
-      (λ k j. past (front mk at x) (registerRows (x .chain) ++ nodeRows (x .chain)) registersAt (registerWords * i + k) (registerAt i + k) (length-front mk at x) (omega arith)
-      ∙ getD-flat registerWords (map words48 rs) (nodeRows (x .chain)) i k (sized-registers (x .chain)) (omega (arith, length-mapped words48 rs, h .registers)) j
+      (λ k j. past (front mk at x) (registerRows (x .chain) ++ nodeRows (x .chain)) registersAt (registerWords * i + k) (registerAt i + k)
+      (length-front mk at x) (omega arith)
+      ∙ getD-flat registerWords (map words48 rs) (nodeRows (x .chain)) i k (sized-registers (x .chain))
+      (omega (arith, length-mapped words48 rs, h .registers)) j
       ∙ ap (λ (r : List ℕ). getD r k 0) (getD-mapped words48 rs i [] (omega (arith, h .registers))))
     where
       rs : List (List ℕ)
@@ -105,8 +113,10 @@ module _ (mk at : ℕ) (x : Contents) (h : Shape (x .chain)) where
   word-read : (i j : ℕ) → i < nodeCount → j < nodeWords → word (imageOf mk at x) i j ≡ getD (placeRow (getD (x .chain .nodes) i none)) j 0
   unfolding imageOf word front
   word-read i j l b =
-      past (front mk at x) (registerRows (x .chain) ++ nodeRows (x .chain)) registersAt (registerCount * registerWords + (nodeWords * i + j)) (nodeAt i + j) (length-front mk at x) (omega arith)
-      ∙ past (registerRows (x .chain)) (nodeRows (x .chain)) (registerCount * registerWords) (nodeWords * i + j) (registerCount * registerWords + (nodeWords * i + j))
+      past (front mk at x) (registerRows (x .chain) ++ nodeRows (x .chain)) registersAt (registerCount * registerWords + (nodeWords * i + j)) (nodeAt i + j)
+      (length-front mk at x) (omega arith)
+      ∙ past (registerRows (x .chain)) (nodeRows (x .chain)) (registerCount * registerWords) (nodeWords * i + j)
+      (registerCount * registerWords + (nodeWords * i + j))
       (length-registers (x .chain) (h .registers)) refl
       ∙ ap (λ (r : List ℕ). getD r (nodeWords * i + j) 0) (sym (append-nil (nodeRows (x .chain))))
       ∙ getD-flat nodeWords (map placeRow ns) [] i j (sized-nodes (x .chain)) (omega (arith, length-mapped placeRow ns, h .nodes)) b
@@ -172,7 +182,8 @@ place-read m ns r i l (some n) e =
     let u : used m i ≡ true = eq-eqb (word m i 0 % 2 ^ 16) 1 (omega arith) in
     let z : allZero m i ≡ false = all-fails (λ j. eqb (word m i j) 0) 0 nodeWords (ne-eqb (word m i 0) 0 (λ q. omega arith)) (omega arith) in
     let p : parent m i ≡ n .parent = omega arith in
-    let a = handle-is m i (handleRow (n .handle)) (length-handle (n .handle)) (λ k b. said m ns r i l (some n) e (handleAt + k) (omega arith) ∙ row-handle n k b) in
+    let a = handle-is m i (handleRow (n .handle)) (length-handle (n .handle))
+    (λ k b. said m ns r i l (some n) e (handleAt + k) (omega arith) ∙ row-handle n k b) in
     let f = said m ns r i l (some n) e flagsAt (omega arith) ∙ row-flags n in
     let t = said m ns r i l (some n) e typeAt (omega arith) ∙ row-type n in
     let c = said m ns r i l (some n) e localityAt (omega arith) ∙ row-locality n in

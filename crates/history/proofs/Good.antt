@@ -211,7 +211,8 @@ good-cold y b =
           ap currentOf (cold-root nodeCount (omega arith) z)
           ∙ sym (getD-set-same (set (replicate registerCount (zeros 48)) currentRegister z) journeyRegister z []
           (rw (length-set, length-replicate registerCount (zeros 48)) (omega arith)));
-      cumulatives = cumulatives-set (replicate nodeCount none) 0 (some (rootNode z)) (λ i n e. absurd (Option·none-ne-some n (sym (blank-place nodeCount i) ∙ e)))
+      cumulatives =
+          cumulatives-set (replicate nodeCount none) 0 (some (rootNode z)) (λ i n e. absurd (Option·none-ne-some n (sym (blank-place nodeCount i) ∙ e)))
           (measure-extended (zeros 48) z);
     }
   where
@@ -287,7 +288,8 @@ module _ (x : Chain) (m : Measurement) (g : Good x) (room : lowestFree nodeCount
   formed-now =
       subst (λ (t : Tree). Formed nodeCount t (g .top) k) (sym tree-stashed)
       (subst (λ (i : ℕ). Formed nodeCount (stashed i k (placeOf (some child)) (treeAt x)) (g .top) k) (sym (holder-is x g))
-      (formed-stashed nodeCount (treeAt x) (g .top) (g .holder) (g .formed) k (placeOf (some child)) room (free-there nodeCount (treeAt x) room) refl refl (holder-is x g)
+      (formed-stashed nodeCount (treeAt x) (g .top) (g .holder) (g .formed) k (placeOf (some child)) room (free-there nodeCount (treeAt x) room) refl refl
+      (holder-is x g)
       default-same))
 
   current-kept : currentOf (getD (set (set (x .nodes) k (some child)) h old) (g .top) none) ≡ currentOf (getD (x .nodes) (g .top) none)
@@ -302,7 +304,9 @@ module _ (x : Chain) (m : Measurement) (g : Good x) (room : lowestFree nodeCount
       go (some n) = refl
 
       top-apart : g .top ≢ lowestFree nodeCount (treeAt x)
-      top-apart z = true≢false (sym (root-used (treeAt x (g .top)) (g .formed .rooted .root)) ∙ ap (λ (j : ℕ). treeAt x j .used) z ∙ free-there nodeCount (treeAt x) room)
+      top-apart z =
+          true≢false
+          (sym (root-used (treeAt x (g .top)) (g .formed .rooted .root)) ∙ ap (λ (j : ℕ). treeAt x j .used) z ∙ free-there nodeCount (treeAt x) room)
 
   pub good-stash : Good (nextChain x (stash m))
   unfolding nextChain h k child old
@@ -334,7 +338,8 @@ good-update x b g =
     record {
       shape =
           shape-of (nextChain x (update b))
-          (measures-set registerCount (set (x .registers) currentRegister (measured (b .digest))) journeyRegister (getD (x .registers) journeyRegister []) (b .digest)
+          (measures-set registerCount (set (x .registers) currentRegister (measured (b .digest))) journeyRegister (getD (x .registers) journeyRegister [])
+          (b .digest)
           (measures-set registerCount (x .registers) currentRegister (zeros 48) (b .digest) (measures-of x (g .shape))))
           (length-set (x .nodes) r new ∙ g .shape .nodes);
       top = g .top;
@@ -343,8 +348,11 @@ good-update x b g =
       journey =
           ap (λ (i : ℕ). currentOf (getD (set (x .nodes) r new) i none)) (sym (root-is x g))
           ∙ ap currentOf (getD-set-same (x .nodes) r new none (omega (arith, root-below x g, g .shape .nodes)) ∙ ap (changed (renewed j)) (root-node x g .1))
-          ∙ sym (getD-set-same (set (x .registers) currentRegister (measured (b .digest))) journeyRegister j [] (rw length-set (omega (arith, g .shape .registers))));
-      cumulatives = cumulatives-set (x .nodes) r new (g .cumulatives) (measure-changed (renewed j) (getD (x .nodes) r none) (λ n e. measure-extended (n .cumulative) j));
+          ∙ sym (getD-set-same (set (x .registers) currentRegister (measured (b .digest))) journeyRegister j []
+          (rw length-set (omega (arith, g .shape .registers))));
+      cumulatives =
+          cumulatives-set (x .nodes) r new (g .cumulatives)
+          (measure-changed (renewed j) (getD (x .nodes) r none) (λ n e. measure-extended (n .cumulative) j));
     }
   where
     r : ℕ

@@ -77,7 +77,8 @@ pub record Fits (h : List Task) (t u : Bool) (tk : Task) : Type 0 where
   pub off : t ≡ false → disables tk ≡ true → (isDisableCommand tk ≡ true) ⊎ (any disables h ≡ true)
 
 -- the kind of work that the image gives is the ledger's
-pub kind-same : {l : List ℕ} {h : List Task} {t u : Bool} → Ground l h t u → (tk : Task) → Fits h t u tk → factsOf tk .kind (treeIn l) ≡ factsOf tk .kind (treeAt (stateOf h .chain))
+pub kind-same : {l : List ℕ} {h : List Task} {t u : Bool} → Ground l h t u → (tk : Task) → Fits h t u tk
+    → factsOf tk .kind (treeIn l) ≡ factsOf tk .kind (treeAt (stateOf h .chain))
 kind-same {l} {h} (sound g o e) tk f = ap (factsOf tk .kind) (ap treeIn e ∙ good-tree 1 (attestationWord (any disables h)) (stateOf h) g)
 kind-same {l} {h} (locked n m s) tk f = f .torn refl .same (treeIn l) (treeAt (stateOf h .chain))
 kind-same {l} {h} (broken n m) tk f = f .torn refl .same (treeIn l) (treeAt (stateOf h .chain))
@@ -130,7 +131,8 @@ pub finish : {l : List ℕ} {h : List Task} {t u : Bool} → Ground l h t u → 
 finish {l} {h} (sound g o e) tk f p =
     sound (subst (λ (x : Contents). Good (x .chain)) (sym (state-snoc h tk)) (law .keeps (stateOf h .chain) g a))
     (any-snoc disables h tk
-    ∙ same-off (any disables h) (any isDisableCommand h) (disables tk) (isDisableCommand tk) o (f .off refl) (by-command (factsOf tk .disables) (isNone (factsOf tk .boot)))
+    ∙ same-off (any disables h) (any isDisableCommand h) (disables tk) (isDisableCommand tk) o (f .off refl)
+    (by-command (factsOf tk .disables) (isNone (factsOf tk .boot)))
     ∙ sym (any-snoc isDisableCommand h tk))
     (ap (λ (z : List ℕ). apply (planAt z tk) z) e
     ∙ law .runs (attestationWord (any disables h)) (stateOf h) g a p
@@ -183,7 +185,8 @@ attestation-on false = refl
 
 pub rule-same : {l : List ℕ} {h : List Task} {t u : Bool} → Ground l h t u → (r : Request) → ruling (viewIn l) r ≡ ruling (viewOf h t u) r
 unfolding viewIn viewOf
-rule-same {l} {h} (sound g o e) r = ap (λ (z : List ℕ). ruling (viewIn z) r) e ∙ (λ i. ruling (record { done = done i; on = on i; nodes = good-tree 1 a x g i }) r)
+rule-same {l} {h} (sound g o e) r =
+    ap (λ (z : List ℕ). ruling (viewIn z) r) e ∙ (λ i. ruling (record { done = done i; on = on i; nodes = good-tree 1 a x g i }) r)
   where
     a : ℕ
     a = attestationWord (any disables h)

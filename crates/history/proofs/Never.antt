@@ -99,7 +99,8 @@ answer-result none k a e = omega arith
 answer-result (some j) k a e = go (ltb k (j .stores)) (ltb (length a) (length (j .answer))) e
   where
     go : (x y : Bool)
-        → refusalOf (cond x (answered storesLeft 0 a) (cond y (answered shortBuffer 0 a) (answered 0 (length (j .answer)) (j .answer ++ drop (length (j .answer)) a)))) ≡ notWellFormed
+        → refusalOf (cond x (answered storesLeft 0 a)
+        (cond y (answered shortBuffer 0 a) (answered 0 (length (j .answer)) (j .answer ++ drop (length (j .answer)) a)))) ≡ notWellFormed
         → ⊥
     go true y e = omega arith
     go false true e = omega arith

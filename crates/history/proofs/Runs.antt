@@ -52,7 +52,8 @@ module _ (mk att : ℕ) (x : Contents) (rs : List Run) where
   attestation-run : (v : ℕ) → apply (storesIn (one attestationAt v ∷ rs)) (imageOf mk att x) ≡ apply (storesIn rs) (imageOf mk v x)
   attestation-run v = run-one rs (imageOf mk att x) attestationAt v ∙ ap (apply (storesIn rs)) (store-attestation mk att x v)
 
-  secret-run : (s : List ℕ) → apply (storesIn (copy secretAt registerWords (words48 s) ∷ rs)) (imageOf mk att x) ≡ apply (storesIn rs) (imageOf mk att (withSecret x s))
+  secret-run : (s : List ℕ)
+      → apply (storesIn (copy secretAt registerWords (words48 s) ∷ rs)) (imageOf mk att x) ≡ apply (storesIn rs) (imageOf mk att (withSecret x s))
   secret-run s =
       run-copy rs (imageOf mk att x) secretAt registerWords (words48 s) (length48 s) ∙ ap (apply (storesIn rs)) (sets-secret mk att x s)
 
@@ -163,7 +164,8 @@ module _ (l : List ℕ) (len : length l ≡ imageWords) where
       word4 : (i : ℕ) → i < registerWords → getD shut-words (secretAt + i) 0 ≡ 0
       word4 i h =
           unfold shut-words in
-          (sets-in shutting secretAt (zeros registerWords) i (omega (arith, length-zeros registerWords)) (omega (arith, shutting-length)) ∙ getD-zeros registerWords i h)
+          (sets-in shutting secretAt (zeros registerWords) i (omega (arith, length-zeros registerWords)) (omega (arith, shutting-length))
+          ∙ getD-zeros registerWords i h)
 
 -- a store that keeps an image shut: to the mark, or of a zero
 abbrev Quiet : Put → Type 0
@@ -221,7 +223,8 @@ module _ (att : ℕ) (x : Contents) (g : Good (x .chain)) (m : Measurement) wher
       (stashRuns (record { node = lowestFree nodeCount (t i); holder = nodeWith nodeCount (t i) defaultWords }) (words48 (extended (r i) (m .digest)))
       (nodeRow (childNode (nodeWith nodeCount (t i) defaultWords) m)))
 
-  pub run-stash : lowestFree nodeCount (treeAt (x .chain)) < nodeCount → apply (planAt (imageOf 1 att x) (stash m)) (imageOf 1 att x) ≡ imageOf 1 att (next x (stash m))
+  pub run-stash : lowestFree nodeCount (treeAt (x .chain)) < nodeCount
+      → apply (planAt (imageOf 1 att x) (stash m)) (imageOf 1 att x) ≡ imageOf 1 att (next x (stash m))
   unfolding nextChain runs register holder free
   run-stash room =
       ap (λ (p : List Put). apply p (imageOf 1 att x)) stash-plan
@@ -285,7 +288,8 @@ module _ (att : ℕ) (x : Contents) (g : Good (x .chain)) (b : BootInputs) where
   update-plan =
       let t = ap (rootIn nodeCount) (good-tree 1 att x g) in
       let r = register-read 1 att x (g .shape) journeyRegister (lit< tt) in
-      let c = ap (λ (i : ℕ). bytes48 (cumulativeIn (imageOf 1 att x) i)) t ∙ cumulative-read 1 att x g root rootNow (root-node (x .chain) g .1) (root-below (x .chain) g) in
+      let c = ap (λ (i : ℕ). bytes48 (cumulativeIn (imageOf 1 att x) i)) t
+      ∙ cumulative-read 1 att x g root rootNow (root-node (x .chain) g .1) (root-below (x .chain) g) in
       λ i. storesIn
       (updateRuns (t i) (words48 (measured (b .digest))) (words48 (extended (r i) (b .digest)))
       (measurementsRow (extended (r i) (b .digest)) (extended (c i) (extended (r i) (b .digest)))) (words48 (b .secret)))
@@ -315,10 +319,12 @@ module _ (att : ℕ) (x : Contents) (g : Good (x .chain)) (b : BootInputs) where
       ∙ register-run 0 att x (drop 2 updateRow) (counted (x .chain) g) currentRegister (measured (b .digest)) (lit< tt)
       ∙ register-run 0 att x1 (drop 3 updateRow) c1 journeyRegister journey (lit< tt)
       ∙ secret-run 0 att x2 (drop 4 updateRow) (b .secret)
-      ∙ run-part (drop 5 updateRow) (imageOf 0 att x3) (nodeAt root + currentAt) registerWords values currentAt (words48 journey) (length48 journey) current-words
+      ∙ run-part (drop 5 updateRow) (imageOf 0 att x3) (nodeAt root + currentAt) registerWords values currentAt (words48 journey) (length48 journey)
+      current-words
       ∙ ap (apply (storesIn (drop 5 updateRow)))
       (sets-node 0 att x3 c3 root currentAt (words48 journey) (some half) (root-below (x .chain) g) (omega (arith, length48 journey)) current-row)
-      ∙ run-part (drop 6 updateRow) (imageOf 0 att x4) (nodeAt root + cumulativeAt) registerWords values cumulativeAt (words48 cumulative) (length48 cumulative) cumulative-words
+      ∙ run-part (drop 6 updateRow) (imageOf 0 att x4) (nodeAt root + cumulativeAt) registerWords values cumulativeAt (words48 cumulative)
+      (length48 cumulative) cumulative-words
       ∙ ap (apply (storesIn (drop 6 updateRow)))
       (sets-node 0 att x4 c4 root cumulativeAt (words48 cumulative) (some whole) (root-below (x .chain) g) (omega (arith, length48 cumulative)) cumulative-row)
       ∙ mark-run 0 att (withNode x4 root (some whole)) [] 1
@@ -431,7 +437,8 @@ module _ (y : Contents) (b : BootInputs) where
   cold-registers : registerRows (nextChain (y .chain) (coldBoot b)) ≡ zeros (currentRegister * registerWords) ++ (m ++ (m ++ zeros restRegisters))
   unfolding nextChain m restRegisters
   cold-registers =
-      ap (λ (r : List ℕ). words48 (zeros 48) ++ (words48 (zeros 48) ++ (m ++ (m ++ r)))) (flat-zeros words48 (zeros 48) registerWords zero-words (registerCount - (journeyRegister + 1)))
+      ap (λ (r : List ℕ). words48 (zeros 48) ++ (words48 (zeros 48) ++ (m ++ (m ++ r))))
+      (flat-zeros words48 (zeros 48) registerWords zero-words (registerCount - (journeyRegister + 1)))
       ∙ ap (λ (z : List ℕ). z ++ (z ++ (m ++ (m ++ zeros restRegisters)))) zero-words
       ∙ sym (append-assoc (zeros registerWords) (zeros registerWords) (m ++ (m ++ zeros restRegisters)))
       ∙ ap (λ (z : List ℕ). z ++ (m ++ (m ++ zeros restRegisters))) (zeros-append registerWords registerWords)
@@ -449,7 +456,9 @@ module _ (y : Contents) (b : BootInputs) where
 
   -- all words in a row
   cold-words : List ℕ
-  cold-words = (0 ∷ 1 ∷ []) ++ zeros 2 ++ words48 (b .secret) ++ zeros (currentRegister * registerWords) ++ m ++ m ++ zeros restRegisters ++ rootWords ++ zeros restNodes
+  cold-words =
+      (0 ∷ 1 ∷ []) ++ zeros 2 ++ words48 (b .secret) ++ zeros (currentRegister * registerWords) ++ m ++ m ++ zeros restRegisters ++ rootWords ++ zeros
+      restNodes
 
   cold-image : cold-words ≡ imageOf 0 1 (next y (coldBoot b))
   unfolding imageOf cold-words

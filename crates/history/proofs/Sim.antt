@@ -64,7 +64,8 @@ module _ (w : Work) (j : Job) (k : ℕ) (c : Carried w j k) (h : k ≤ j .stores
 
   carried-late : k ≡ j .stores → (b : List ℕ)
       → answerTaken (some (record { work = w; boot = true })) b
-      ≡ cond (ltb (length b) (length (j .answer))) (answered number.shortBuffer 0 b) (answered 0 (length (j .answer)) (j .answer ++ drop (length (j .answer)) b))
+      ≡ cond (ltb (length b) (length (j .answer))) (answered number.shortBuffer 0 b)
+      (answered 0 (length (j .answer)) (j .answer ++ drop (length (j .answer)) b))
   unfolding answerResult answerBuffer answerNumber finished
   carried-late e b =
       rw (shaped, eq-eqb (w .position) (numberOf (w .kind)) (omega (arith, c .number, c .position)))
@@ -139,7 +140,8 @@ no-tear n k e = rw (le-ltb k n (omega arith)) (and-false (ltb 0 k))
 middle-tears : (n k : ℕ) → suc k < n → (ltb 0 (suc k) && ltb (suc k) n) ≡ true
 middle-tears n k h = rw (lt-ltb 0 (suc k) (zero-lt-suc k), lt-ltb (suc k) n h)
 
-middle-mark : (base : List ℕ) (tk : Task) (k : ℕ) → length base ≡ imageWords → 0 < k → k < length (planAt base tk) → getD (apply (take k (planAt base tk)) base) markAt 0 ≡ 0
+middle-mark : (base : List ℕ) (tk : Task) (k : ℕ) → length base ≡ imageWords → 0 < k → k < length (planAt base tk)
+    → getD (apply (take k (planAt base tk)) base) markAt 0 ≡ 0
 unfolding planAt
 middle-mark base tk k e p h = mark-mid (workAt base tk []) k base p h (omega arith)
 
@@ -269,7 +271,8 @@ module _ (m : Machine) (b : Ledger) (i : Related m b) where
       subst (λ (R : Ruling). Together (afterBoot m (bootedOf (m .image) R .work) (bootedOf (m .image) R .status)) (ledgerBoot b (updateRuling b x v)))
       (sym same)
       (after-boot (updateRuling b x v)
-      (decided (FitsRuling (b .history) gone (b .unfinished) true) (bootRules x) refused _ (λ n. tt) (λ n. tt) (λ n. fits-boot (b .history) gone (b .unfinished) v x)))
+      (decided (FitsRuling (b .history) gone (b .unfinished) true) (bootRules x) refused _ (λ n. tt) (λ n. tt)
+      (λ n. fits-boot (b .history) gone (b .unfinished) v x)))
     where
       same : cond (not (eqb (length (m .image)) imageWords)) (refused number.wrongImage) (bootRuling (bootRules x) (updateTask (intact (m .image)) v x))
           ≡ updateRuling b x v

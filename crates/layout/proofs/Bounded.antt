@@ -51,7 +51,9 @@ module _ (p : ℕ → Bool) where
   pub all-at : (n i : ℕ) → allBelow n p ≡ true → i < n → p i ≡ true
   unfolding allBelow
   all-at zero i h l = absurd (omega arith)
-  all-at (suc n) i h l = elim (decLt i n) [ yes g ↦ all-at n i (and-left (allBelow n p) (p n) h) g | no g ↦ (let e : i ≡ n = omega arith in rw e (and-right (allBelow n p) (p n) h)) ]
+  all-at (suc n) i h l =
+      elim (decLt i n)
+      [ yes g ↦ all-at n i (and-left (allBelow n p) (p n) h) g | no g ↦ (let e : i ≡ n = omega arith in rw e (and-right (allBelow n p) (p n) h)) ]
 
   pub count-yes : (i c d : ℕ) → c ≡ countBelow i p → p i ≡ true → d ≡ c + 1 → d ≡ countBelow (i + 1) p
   unfolding countBelow

@@ -104,7 +104,8 @@ words-bytes n ws h small = tab-is (λ k. le32 (bytesIn (4 * n) ws) (0 + 4 * k)) 
         let f : (4 * i + j) % 4 ≡ j = omega arith in
         getD-bytes (4 * n) ws (4 * i + j) (omega arith) ∙ ap₂ (λ (x y : ℕ). byteOf (getD ws x 0) y) e f in
         let z : 0 + 4 * i ≡ 4 * i = omega arith in
-        let b0 : getD (bytesIn (4 * n) ws) (4 * i) 0 ≡ byteOf (getD ws i 0) 0 = ap (λ (k : ℕ). getD (bytesIn (4 * n) ws) k 0) (omega arith) ∙ get 0 (omega arith) in
+        let b0 : getD (bytesIn (4 * n) ws) (4 * i) 0 ≡ byteOf (getD ws i 0) 0 = ap (λ (k : ℕ). getD (bytesIn (4 * n) ws) k 0) (omega arith)
+        ∙ get 0 (omega arith) in
         let b1 = get 1 (omega arith) in
         let b2 = get 2 (omega arith) in
         let b3 = get 3 (omega arith) in

@@ -44,7 +44,8 @@ made m image s e b =
     (e b, sym (same-buffer (m .hand) (m .report) (s .result) (λ c. ap (λ (x : Step Machine). x .result) (e c)) b))
 
 -- a boot's opening
-pub boot-step : (h : InHand) (image : List ℕ) (b : boots.Booted) (buffer : List ℕ) → stepOf (bootMade h b) image buffer ≡ afterBoot (machineOf image h) (b .work) (b .status)
+pub boot-step : (h : InHand) (image : List ℕ) (b : boots.Booted) (buffer : List ℕ)
+    → stepOf (bootMade h b) image buffer ≡ afterBoot (machineOf image h) (b .work) (b .status)
 unfolding bootMade stepOf machineOf handOf resultOf
 boot-step h image b buffer = go (b .work) (b .status)
   where

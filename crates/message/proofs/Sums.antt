@@ -13,7 +13,8 @@ sum-append [] b = omega arith
 sum-append (x ∷ a) b = omega (arith, sum-append a b)
 
 -- one byte more
-pub sum-more : (s : List ℕ) (i r b t : ℕ) → i < length s → r ≡ sumOf (take i s) % 2 ^ 32 → b ≡ getD s i 0 → t ≡ (r + b) % 2 ^ 32 → t ≡ sumOf (take (i + 1) s) % 2 ^ 32
+pub sum-more : (s : List ℕ) (i r b t : ℕ) → i < length s → r ≡ sumOf (take i s) % 2 ^ 32 → b ≡ getD s i 0 → t ≡ (r + b) % 2 ^ 32
+    → t ≡ sumOf (take (i + 1) s) % 2 ^ 32
 sum-more s i r b t h p q e =
     let f : sumOf (take (i + 1) s) ≡ sumOf (take i s) + getD s i 0 =
     rw (add-one, take-suc s i 0) (sum-append (take i s) (getD s i 0 ∷ []) ∙ omega arith) in

@@ -37,7 +37,8 @@ module _ (code sum : ℕ) (rest o front : List ℕ) (room : length rest + 8 ≤ 
   end-within = omega (arith, ap length copied, length-append rest (zs (answerMax - 8 - length rest)))
 
   pub whole-length : answerMax ≡ length (putMid 8 (answerMax - 8) (replicate answerMax 0) o)
-  whole-length = omega (arith, ap length copied, length-append rest (zs (answerMax - 8 - length rest)), length-replicate {A = ℕ} (answerMax - 8 - length rest) 0)
+  whole-length =
+      omega (arith, ap length copied, length-append rest (zs (answerMax - 8 - length rest)), length-replicate {A = ℕ} (answerMax - 8 - length rest) 0)
 
   -- what the checksum covers
   pub covered : take (length rest + 8 - 4) (drop 4 (putMid 8 (answerMax - 8) (replicate answerMax 0) o)) ≡ bytes4 0 ++ rest

@@ -45,7 +45,11 @@ stash-shaped : (image : List ℕ) (x : Measurement) (a : List ℕ) → length a 
     → wellShaped (workAt image (stash x) a) ≡ true
 unfolding wellShaped workAt workWith indexOk numberOf
 stash-shaped image x a h f g =
-    rw (lt-ltb (lowestFree nodeCount (treeIn image)) nodeCount f, lt-ltb (nodeWith nodeCount (treeIn image) defaultWords) nodeCount g, le-leb (length a) answerMax h)
+    rw (
+      lt-ltb (lowestFree nodeCount (treeIn image)) nodeCount f,
+      lt-ltb (nodeWith nodeCount (treeIn image) defaultWords) nodeCount g,
+      le-leb (length a) answerMax h,
+    )
 
 -- ---- the rulings of a request
 

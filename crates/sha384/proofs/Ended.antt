@@ -54,7 +54,8 @@ ended rest o1 o2 total hn ht e1 e2 =
     let lb : length b ≡ 256 = length-append rest (128 ∷ zeros (255 - n)) ∙ omega (arith, length-zeros (255 - n)) in
     let lf : length front ≡ len - 8 = length-append rest (128 ∷ zeros g) ∙ omega (arith, length-zeros g) in
     let split : b ≡ front ++ zeros (255 - n - g) =
-    ap (λ (l : List ℕ). rest ++ (128 ∷ l)) (zeros-add g (255 - n - g) (255 - n) (omega arith)) ∙ sym (append-assoc rest (128 ∷ zeros g) (zeros (255 - n - g))) in
+    ap (λ (l : List ℕ). rest ++ (128 ∷ l)) (zeros-add g (255 - n - g) (255 - n) (omega arith))
+    ∙ sym (append-assoc rest (128 ∷ zeros g) (zeros (255 - n - g))) in
     let head : take (len - 8) b ≡ front = ap (take (len - 8)) split ∙ take-at front (zeros (255 - n - g)) (len - 8) lf in
     let stored : o2 ≡ (front ++ vs) ++ drop (len - 8 + 8) b =
     e2 ∙ ap (λ (l : List ℕ). sets l (len - 8) vs) s2 ∙ sets-eq vs b (len - 8) (omega arith)

@@ -22,7 +22,9 @@ in-two-runs m t h r eh et er =
     let first : h ≡ hashed constants initialOf front q =
     eh ∙ ap (λ (l : List ℕ). hashed constants initialOf l q) (sym whole) ∙ hashed-front constants initialOf front (drop (q * 128) m) q (omega arith) in
     let split : m ++ padding (length m) ≡ front ++ t =
-    ap (λ (l : List ℕ). l ++ padding (length m)) (sym whole) ∙ append-assoc front (drop (q * 128) m) (padding (length m)) ∙ ap (λ (l : List ℕ). front ++ l) (sym et) in
-    let blocks : length (m ++ padding (length m)) / 128 ≡ q + length t / 128 = ap (λ (l : List ℕ). length l / 128) split ∙ omega (arith, length-append front t) in
+    ap (λ (l : List ℕ). l ++ padding (length m)) (sym whole) ∙ append-assoc front (drop (q * 128) m) (padding (length m))
+    ∙ ap (λ (l : List ℕ). front ++ l) (sym et) in
+    let blocks : length (m ++ padding (length m)) / 128 ≡ q + length t / 128 = ap (λ (l : List ℕ). length l / 128) split
+    ∙ omega (arith, length-append front t) in
     er ∙ ap (λ (x : State). hashed constants x t (length t / 128)) first
     ∙ sym (ap₂ (hashed constants initialOf) split blocks ∙ hashed-append constants initialOf front t q (length t / 128) lf)

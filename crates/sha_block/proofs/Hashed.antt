@@ -11,7 +11,8 @@ use Rattle.sha_block.specs.Blocks.{wordAt, blockWords, blockOf, hashed}
 use Rattle.sha_block.specs.declared.state.State.{State}
 
 -- one block more
-pub hashed-more : (k : List ℕ) (h : State) (p w : List ℕ) (q : ℕ) {s r : State} → s ≡ hashed k h p q → w ≡ blockWords p (q * 128) 16 → r ≡ blockOf k s w → r ≡ hashed k h p (q + 1)
+pub hashed-more : (k : List ℕ) (h : State) (p w : List ℕ) (q : ℕ) {s r : State} → s ≡ hashed k h p q → w ≡ blockWords p (q * 128) 16 → r ≡ blockOf k s w
+    → r ≡ hashed k h p (q + 1)
 hashed-more k h p w q e ew er = rw add-one (er ∙ ap₂ (blockOf k) e ew)
 
 -- words of equal bytes are equal

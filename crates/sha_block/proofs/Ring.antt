@@ -39,7 +39,8 @@ scheduled m t h lo hi =
     let back : (d : ℕ) → 0 < d → at ws (length ws - d) ≡ at (schedule 64 m) (t - d) =
     λ d p. ap (λ (i : ℕ). at ws (i - d)) n ∙ sym (prefix m (t - 16) 64 (t - d) (omega arith) (omega arith)) in
     let new : at (schedule 64 m) t ≡ nextWord ws =
-    prefix m (suc (t - 16)) 64 t (omega arith) (omega arith) ∙ ap (λ (i : ℕ). getD (ws ++ (nextWord ws ∷ [])) i 0) (sym n) ∙ getD-append-seam ws (nextWord ws) [] 0 in
+    prefix m (suc (t - 16)) 64 t (omega arith) (omega arith) ∙ ap (λ (i : ℕ). getD (ws ++ (nextWord ws ∷ [])) i 0) (sym n)
+    ∙ getD-append-seam ws (nextWord ws) [] 0 in
     let a = back 2 (omega arith) in
     let b = back 7 (omega arith) in
     let c = back 15 (omega arith) in

@@ -73,7 +73,8 @@ module _ (n : ℕ) (t u : Tree) (S : ℕ → Type 0) (same : (i : ℕ) → S i �
       parents : u i .parent ≡ t i .parent
       parents = ap (λ (f : Frame). f .parent) (same i h)
 
-      by-root : (b : Bool) → isRoot (t i) ≡ b → (S (t i .parent) → leads n t s (t i .parent) ≡ true → leads n u s (t i .parent) ≡ true) → leads n u (suc s) i ≡ true
+      by-root : (b : Bool) → isRoot (t i) ≡ b → (S (t i .parent) → leads n t s (t i .parent) ≡ true → leads n u s (t i .parent) ≡ true)
+          → leads n u (suc s) i ≡ true
       by-root true e on = leads-root n u (suc s) i (frame-root (u i) (t i) (same i h) ∙ e)
       by-root false e on = elim (leads-cases n t s i q) [
         | inl w ↦ absurd (true≢false (sym w ∙ e))
@@ -121,7 +122,8 @@ rooted-same n t u top r e =
 
 -- ---- a free place becomes a node below a used one
 
-module _ (n : ℕ) (t : Tree) (top : ℕ) (r : Rooted n t top) (k : ℕ) (p : Place) (l : k < n) (free : t k .used ≡ false) (used : p .used ≡ true) (flags : p .flags ≡ 0)
+module _ (n : ℕ) (t : Tree) (top : ℕ) (r : Rooted n t top) (k : ℕ) (p : Place) (l : k < n) (free : t k .used ≡ false) (used : p .used ≡ true)
+    (flags : p .flags ≡ 0)
     (below : p .parent < n) (up : t (p .parent) .used ≡ true) where
   u : Tree
   u = placed k p t

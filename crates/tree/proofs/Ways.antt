@@ -32,7 +32,10 @@ module _ (n : ℕ) (t : Tree) where
           → (isRoot (t i) ≡ true) ⊎ ((t i .parent < n) × (leads n t s (t i .parent) ≡ true))
       go true e q = inl e
       go false e q =
-          inr (ltb-true (t i .parent) n (and-left (ltb (t i .parent) n) (leads n t s (t i .parent)) q), and-right (ltb (t i .parent) n) (leads n t s (t i .parent)) q)
+          inr (
+            ltb-true (t i .parent) n (and-left (ltb (t i .parent) n) (leads n t s (t i .parent)) q),
+            and-right (ltb (t i .parent) n) (leads n t s (t i .parent)) q,
+          )
 
   pub leads-more : (s i : ℕ) → leads n t s i ≡ true → leads n t (suc s) i ≡ true
   leads-more zero i h = leads-root 1 i (unfold leads in h)

@@ -39,7 +39,8 @@ same-refl a = all-below (λ j. eqb (getD a j 0) (getD a j 0)) handleWords (λ j 
 retired-other : (a : List ℕ) → sameHandle a retiredWords ≡ true → sameHandle a defaultWords ≡ false
 unfolding sameHandle
 retired-other a h =
-    let e : getD a 0 0 ≡ retiredWord = eqb-true (getD a 0 0) retiredWord (all-at (λ j. eqb (getD a j 0) (getD retiredWords j 0)) handleWords 0 h (omega arith)) in
+    let e : getD a 0 0 ≡ retiredWord = eqb-true (getD a 0 0) retiredWord
+    (all-at (λ j. eqb (getD a j 0) (getD retiredWords j 0)) handleWords 0 h (omega arith)) in
     all-fails (λ j. eqb (getD a j 0) (getD defaultWords j 0)) 0 handleWords (ne-eqb (getD a 0 0) 0 (λ z. omega arith)) (omega arith)
 
 -- ---- from the facts to the test
@@ -182,7 +183,8 @@ module _ (n : ℕ) (t : Tree) (h : wellFormed n t ≡ true) where
   retired-at : (i : ℕ) → i < n → t i .used ≡ true → i ≢ nodeWith n t defaultWords → sameHandle (t i .handle) retiredWords ≡ true
   unfolding handleOk hasHandle
   retired-at i l u z =
-      go (sameHandle (t i .handle) defaultWords) (rw u at (holder-only .only i l z)) (and-left (handleOk (t i)) (cond (isRoot (t i)) (rootOk (t i)) (childOk n t i)) (place-at i l true u))
+      go (sameHandle (t i .handle) defaultWords) (rw u at (holder-only .only i l z))
+      (and-left (handleOk (t i)) (cond (isRoot (t i)) (rootOk (t i)) (childOk n t i)) (place-at i l true u))
     where
       go : (b : Bool) → b ≡ false → (b || sameHandle (t i .handle) retiredWords) ≡ true → sameHandle (t i .handle) retiredWords ≡ true
       go true e q = absurd (true≢false e)
@@ -197,13 +199,19 @@ module _ (n : ℕ) (t : Tree) (h : wellFormed n t ≡ true) where
               root = root-only .there;
               kind = rw (root-only .there) at (shape-at (rootIn n t) (root-only .below) (root-used (t (rootIn n t)) (root-only .there)));
               child = λ i l u z. child-of i (rw (root-only .only i l z) at (shape-at i l u));
-              way = λ i l u. unfold leadsIfUsed in (rw u at (all-at (leadsIfUsed n t) n i (and-right H W (and-right R (H && W) (and-right P (R && (H && W)) whole))) l));
+              way =
+                  λ i l u. unfold leadsIfUsed in
+                  (rw u at (all-at (leadsIfUsed n t) n i (and-right H W (and-right R (H && W) (and-right P (R && (H && W)) whole))) l));
             };
         held =
             record {
               below = holder-only .below;
-              used = and-left (t (nodeWith n t defaultWords) .used) (sameHandle (t (nodeWith n t defaultWords) .handle) defaultWords) (unfold hasHandle in (holder-only .there));
-              default = and-right (t (nodeWith n t defaultWords) .used) (sameHandle (t (nodeWith n t defaultWords) .handle) defaultWords) (unfold hasHandle in (holder-only .there));
+              used =
+                  and-left (t (nodeWith n t defaultWords) .used) (sameHandle (t (nodeWith n t defaultWords) .handle) defaultWords)
+                  (unfold hasHandle in (holder-only .there));
+              default =
+                  and-right (t (nodeWith n t defaultWords) .used) (sameHandle (t (nodeWith n t defaultWords) .handle) defaultWords)
+                  (unfold hasHandle in (holder-only .there));
               others = retired-at;
             };
         blank = λ i l u. place-at i l false u;
@@ -249,7 +257,8 @@ module _ (n : ℕ) (t : Tree) (top holder : ℕ) (f : Formed n t top holder) (k 
 
   retired-now : (i : ℕ) → i < n → t i .used ≡ true → sameHandle (u i .handle) retiredWords ≡ true
   retired-now i b v = elim (ℕ-discrete i holder) [
-    | yes e ↦ ap (λ (j : ℕ). sameHandle (u j .handle) retiredWords) e ∙ ap (λ (q : Place). sameHandle (q .handle) retiredWords) at-holder ∙ same-refl retiredWords
+    | yes e ↦ ap (λ (j : ℕ). sameHandle (u j .handle) retiredWords) e ∙ ap (λ (q : Place). sameHandle (q .handle) retiredWords) at-holder
+        ∙ same-refl retiredWords
     | no z ↦ ap (λ (q : Place). sameHandle (q .handle) retiredWords) (elsewhere i z) ∙ f .held .others i b v z
   ]
 
@@ -261,7 +270,9 @@ module _ (n : ℕ) (t : Tree) (top holder : ℕ) (f : Formed n t top holder) (k 
   unfolding u
   formed-stashed =
       record {
-        rooted = rooted-more n u top u-rooted k p l (use-kept k ∙ free) used flags (rw below (f .held .below)) (ap (λ (j : ℕ). u j .used) below ∙ use-kept holder ∙ f .held .used);
+        rooted =
+            rooted-more n u top u-rooted k p l (use-kept k ∙ free) used flags (rw below (f .held .below))
+            (ap (λ (j : ℕ). u j .used) below ∙ use-kept holder ∙ f .held .used);
         held =
             record {
               below = l;

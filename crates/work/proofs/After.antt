@@ -113,7 +113,8 @@ drop-one (p ∷ ps) (suc k) l h =
 module _ (l : List ℕ) (size : length l ≡ imageWords) where
   made-all : (n : ℕ) (w : Work) (m : List ℕ) → length m ≡ imageWords → wellShaped w ≡ true → n ≡ leftOf w
       → (finished (afterStores n w m .work) ≡ true) × (afterStores n w m .image ≡ apply (drop (w .position) (plan w)) m)
-  made-all zero w m e s h = (none-left w s (sym h), sym (ap (λ (ps : List Put). apply ps m) (drop-end (plan w) (w .position) (omega (arith, length-plan w, left-shaped w s)))))
+  made-all zero w m e s h =
+      (none-left w s (sym h), sym (ap (λ (ps : List Put). apply ps m) (drop-end (plan w) (w .position) (omega (arith, length-plan w, left-shaped w s)))))
     where
       drop-end : (ps : List Put) (k : ℕ) → length ps ≤ k → drop k ps ≡ []
       drop-end [] zero b = refl

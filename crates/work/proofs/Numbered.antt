@@ -21,7 +21,8 @@ pub record Allowed (w : Work) (image : List ℕ) : Type 0 where
   pub size : length image ≡ imageWords
   pub some : 0 < leftOf w
 
-allowed-by : (w : Work) (image : List ℕ) (a b : Bool) → eqb (length image) imageWords ≡ a → ltb 0 (leftOf w) ≡ b → cond {A = ℕ} a (cond b 0 9) 1 ≡ 0 → Allowed w image
+allowed-by : (w : Work) (image : List ℕ) (a b : Bool) → eqb (length image) imageWords ≡ a → ltb 0 (leftOf w) ≡ b → cond {A = ℕ} a (cond b 0 9) 1 ≡ 0
+    → Allowed w image
 allowed-by w image true true ea eb h = record { size = eqb-true (length image) imageWords ea; some = ltb-true 0 (leftOf w) eb }
 allowed-by w image true false ea eb h = let z : ⊥ = omega arith in absurd z
 allowed-by w image false b ea eb h = let z : ⊥ = omega arith in absurd z

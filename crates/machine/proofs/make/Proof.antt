@@ -31,7 +31,8 @@ returns : tie.Need-returns
 unfolding actOf
 returns c =
     rw (c .before .before .match .keys1)
-    (made (c .request-call .result) _ _ (c .request-call .ensures) (c .before .before .before .before .before .before .before .before .before .args .buffer .now))
+    (made (c .request-call .result) _ _ (c .request-call .ensures)
+    (c .before .before .before .before .before .before .before .before .before .args .buffer .now))
 
 same-length-2 : tie.Need-same-length-2
 same-length-2 c = search needs
@@ -40,7 +41,8 @@ returns-2 : tie.Need-returns-2
 unfolding actOf
 returns-2 c =
     rw (c .before .before .match .keys2)
-    (made (c .update-boot-call .result) _ _ (c .update-boot-call .ensures) (c .before .before .before .before .before .before .before .before .before .args .buffer .now))
+    (made (c .update-boot-call .result) _ _ (c .update-boot-call .ensures)
+    (c .before .before .before .before .before .before .before .before .before .args .buffer .now))
 
 same-length-3 : tie.Need-same-length-3
 same-length-3 c = search needs
@@ -49,7 +51,8 @@ returns-3 : tie.Need-returns-3
 unfolding actOf
 returns-3 c =
     rw (c .before .before .before .before .match .keys3)
-    (made (c .before .before .store-call .result) _ _ (c .before .before .store-call .ensures) (c .before .before .before .before .before .before .before .before .before .before .before .args .buffer .now))
+    (made (c .before .before .store-call .result) _ _ (c .before .before .store-call .ensures)
+    (c .before .before .before .before .before .before .before .before .before .before .before .args .buffer .now))
 
 same-length-4 : tie.Need-same-length-4
 same-length-4 c = search needs
@@ -58,7 +61,8 @@ returns-4 : tie.Need-returns-4
 unfolding actOf
 returns-4 c =
     rw (c .before .before .match .keys4)
-    (made (c .cold-boot-call .result) _ _ (c .cold-boot-call .ensures) (c .before .before .before .before .before .before .before .before .before .args .buffer .now))
+    (made (c .cold-boot-call .result) _ _ (c .cold-boot-call .ensures)
+    (c .before .before .before .before .before .before .before .before .before .args .buffer .now))
 
 same-length-5 : tie.Need-same-length-5
 same-length-5 c = search needs

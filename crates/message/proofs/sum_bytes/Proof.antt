@@ -37,8 +37,11 @@ loop-less c = search needs
 
 loop-again : tie.Need-loop-again Inv-loop μ-loop
 loop-again c =
-    let l = c .before .before .before .before .loop in
-    (omega arith, sum-more (c .before .before .before .before .before .before .args .s .now) (l .i) (l .sum) (c .before .wide .result) (c .wrapping-add-u32 .result) (omega arith) (l .inv .1) (c .before .wide .ensures) (c .wrapping-add-u32 .ensures))
+    let l = c .before .before .before .before .loop in (
+      omega arith,
+      sum-more (c .before .before .before .before .before .before .args .s .now) (l .i) (l .sum) (c .before .wide .result)
+          (c .wrapping-add-u32 .result) (omega arith) (l .inv .1) (c .before .wide .ensures) (c .wrapping-add-u32 .ensures),
+    )
 
 returns : tie.Need-returns Inv-loop μ-loop
 returns c = rw (← take-all (c .before .loop .i) (c .before .before .before .args .s .now) (omega arith)) (c .before .loop .inv .1)

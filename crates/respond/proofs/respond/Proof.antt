@@ -24,7 +24,9 @@ respond-to-requires-2 c κs = search needs
 
 returns-2 : tie.Need-returns-2
 unfolding programOutput
-returns-2 c = c .respond-to2 .ensures ∙ ap (λ (l : List ℕ). responseOf (outputOf l)) (sym (take-all inputMax (c .before .before .before .args .input .now) (omega arith)))
+returns-2 c =
+    c .respond-to2 .ensures
+    ∙ ap (λ (l : List ℕ). responseOf (outputOf l)) (sym (take-all inputMax (c .before .before .before .args .input .now) (omega arith)))
 
 pub respond-spec : {M : Type 1} → statement M
 respond-spec =

@@ -49,7 +49,9 @@ returns c = let o = c .before .before .before .before .«open» .result in
     c .with-result .ensures
     ∙ ap (λ (n : ℕ). responseWith n 0 (replicate responseMax 0)) (c .before .number-of .ensures)
     ∙ refused-output (o .work) (o .status) (c .before .before .enum-told2 .given .0 .0) (c .before .before .enum-told2 .given .1)
-    ∙ ap (λ (x : Opened). responseOf (written x)) (c .before .before .before .before .«open» .ensures ∙ ap (λ (i : List ℕ). openRequest i (requestIn (c .before .before .before .before .before .before .before .before .args .input .now))) (c .before .before .before .before .before .before .cold-image .ensures))
+    ∙ ap (λ (x : Opened). responseOf (written x)) (c .before .before .before .before .«open» .ensures ∙ ap
+    (λ (i : List ℕ). openRequest i (requestIn (c .before .before .before .before .before .before .before .before .args .input .now)))
+    (c .before .before .before .before .before .before .cold-image .ensures))
 
 slice-aggregate-run-all : tie.Need-slice-aggregate-run-all
 slice-aggregate-run-all c = search needs
@@ -77,11 +79,15 @@ long c = search needs
 same : (c : tie.After-run-all) → SameAnswer (c .run-all .result) (c .before .before .before .before .before .«open» .result .work)
 same c =
     let w = c .before .before .before .before .before .«open» .result .work in
-    subst (λ (x : Work). SameAnswer x w) (sym (c .run-all .ensures .0)) (all-answer w (c .before .before .before .before .before .before .before .cold-image .result))
+    subst (λ (x : Work). SameAnswer x w) (sym (c .run-all .ensures .0))
+    (all-answer w (c .before .before .before .before .before .before .before .cold-image .result))
 
 ended : (c : tie.After-run-all) → finished (c .run-all .result) ≡ true
 ended c =
-    ready-finished (c .before .before .before .before .before .before .before .cold-image .result) (requestIn (c .before .before .before .before .before .before .before .before .before .args .input .now)) (c .before .before .before .before .before .«open» .result) (c .before .before .before .before .before .«open» .ensures) (c .before .before .before .enum-told .given .1)
+    ready-finished (c .before .before .before .before .before .before .before .cold-image .result)
+    (requestIn (c .before .before .before .before .before .before .before .before .before .args .input .now))
+    (c .before .before .before .before .before .«open» .result) (c .before .before .before .before .before .«open» .ensures)
+    (c .before .before .before .enum-told .given .1)
     (ap length (c .before .before .before .before .before .before .before .cold-image .ensures) ∙ cold-length) (c .run-all .result) (c .run-all .ensures .0)
 
 with-result-requires-2 : tie.Need-with-result-requires-2
@@ -96,10 +102,15 @@ returns-2 c = let done = c .before .before .before .before .before .run-all .res
     let o = c .before .before .before .before .before .before .before .before .before .before .«open» .result in
     let buffer = c .before .before .answer .last .1 .0 in
     c .with-result2 .ensures
-    ∙ ap (λ (x : Answered). responseWith (x .number) (x .written) (putMid 4 (responseMax - 4) (replicate responseMax 0) buffer)) (c .before .before .answer .ensures .0 ∙ taken done end)
-    ∙ answered-output done end (o .work) (same (c .before .before .before .before .before)) (long (c .before .before .before .before .before)) buffer (c .before .before .answer .ensures .1)
+    ∙ ap (λ (x : Answered). responseWith (x .number) (x .written) (putMid 4 (responseMax - 4) (replicate responseMax 0) buffer))
+    (c .before .before .answer .ensures .0 ∙ taken done end)
+    ∙ answered-output done end (o .work) (same (c .before .before .before .before .before)) (long (c .before .before .before .before .before)) buffer
+    (c .before .before .answer .ensures .1)
     ∙ ap responseOf (ready-written (o .work) (o .status) (c .before .before .before .before .before .before .before .before .enum-told .given .1))
-    ∙ ap (λ (x : Opened). responseOf (written x)) (c .before .before .before .before .before .before .before .before .before .before .«open» .ensures ∙ ap (λ (i : List ℕ). openRequest i (requestIn (c .before .before .before .before .before .before .before .before .before .before .before .before .before .before .args .input .now))) (c .before .before .before .before .before .before .before .before .before .before .before .before .cold-image .ensures))
+    ∙ ap (λ (x : Opened). responseOf (written x))
+    (c .before .before .before .before .before .before .before .before .before .before .«open» .ensures
+    ∙ ap (λ (i : List ℕ). openRequest i (requestIn (c .before .before .before .before .before .before .before .before .before .before .before .before .before .before .args .input .now)))
+    (c .before .before .before .before .before .before .before .before .before .before .before .before .cold-image .ensures))
 
 pub respond-to-spec : {M : Type 1} → statement M
 respond-to-spec =

@@ -60,14 +60,18 @@ loop-less c = search needs
 loop-again : tie.Need-loop-again Inv-loop μ-loop
 loop-again c =
     let g = c .before .before .before .before in
-    let l = c .before .before .before .loop in
-    (omega arith, simp length-set (l .inv .1), hex-more (g .args .t1) (l .out) (l .i) _ _ (omega (arith, long g)) (omega arith) (l .inv .2) (c .before .digit .ensures) (c .digit2 .ensures))
+    let l = c .before .before .before .loop in (
+      omega arith,
+      simp length-set (l .inv .1),
+      hex-more (g .args .t1) (l .out) (l .i) _ _ (omega (arith, long g)) (omega arith) (l .inv .2) (c .before .digit .ensures) (c .digit2 .ensures),
+    )
 
 returns : tie.Need-returns Inv-loop μ-loop
 returns c =
     let l = c .before .loop in
     let e : l .i ≡ 48 = omega arith in
-    sym (take-all (2 * l .i) (l .out) (omega arith)) ∙ l .inv .2 ∙ ap hexOf (take-all (l .i) (c .before .before .args .t1) (omega (arith, long (c .before .before))))
+    sym (take-all (2 * l .i) (l .out) (omega arith)) ∙ l .inv .2
+    ∙ ap hexOf (take-all (l .i) (c .before .before .args .t1) (omega (arith, long (c .before .before))))
 
 pub hex-spec : {M : Type 1} → statement M
 hex-spec =

@@ -46,7 +46,17 @@ returns c =
     let g = c .before .before .before .before .before .before .before .before .before .before .before in
     let d = g .args .digest .now in
     let digest : part 48 d 0 ≡ d = part-within 48 d 0 (omega (arith, g .pre)) ∙ take-all 48 d (omega (arith, g .pre)) in
-    rw (c .new-work .ensures, c .before .no-answer .ensures, c .before .before .pack2 .ensures, c .before .before .before .node-row .ensures, c .before .before .before .before .pack .ensures, c .before .before .before .before .before .before .extend2 .ensures, c .before .before .before .before .before .before .before .extend .ensures, c .before .before .before .before .before .before .before .before .bytes-of .ensures, digest)
+    rw (
+      c .new-work .ensures,
+      c .before .no-answer .ensures,
+      c .before .before .pack2 .ensures,
+      c .before .before .before .node-row .ensures,
+      c .before .before .before .before .pack .ensures,
+      c .before .before .before .before .before .before .extend2 .ensures,
+      c .before .before .before .before .before .before .before .extend .ensures,
+      c .before .before .before .before .before .before .before .before .bytes-of .ensures,
+      digest,
+    )
 
 pub cold-work-spec : {M : Type 1} → statement M
 cold-work-spec =

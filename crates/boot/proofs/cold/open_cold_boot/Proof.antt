@@ -34,7 +34,10 @@ unfolding openColdBoot workAt workWith
 returns-2 c =
     let a = c .before .before .before .before .before .before .before .args in
     booted-told (c .boot-refused2 .result) (openColdBoot (a .image .now) (bootOf (a .digest .now) (a .secret .now)))
-    (rw (eq-eqb (length (a .image .now)) imageWords (c .before .before .before .if1 .left), told-no (c .before .before .inputs-ok .ensures) (c .before .if2 .taken)) (c .boot-refused2 .ensures))
+    (rw (
+      eq-eqb (length (a .image .now)) imageWords (c .before .before .before .if1 .left),
+      told-no (c .before .before .inputs-ok .ensures) (c .before .if2 .taken),
+    ) (c .boot-refused2 .ensures))
 
 cold-work-requires : tie.Need-cold-work-requires
 cold-work-requires c κs = digest-length _ (told-yes (c .before .inputs-ok .ensures) (c .if2 .left))
@@ -47,7 +50,10 @@ unfolding openColdBoot workAt workWith
 returns-3 c =
     let a = c .before .before .before .before .before .before .before .before .args in
     booted-told (c .boot-ready .result) (openColdBoot (a .image .now) (bootOf (a .digest .now) (a .secret .now)))
-    (rw (eq-eqb (length (a .image .now)) imageWords (c .before .before .before .before .if1 .left), told-yes (c .before .before .before .inputs-ok .ensures) (c .before .before .if2 .left)) (rw (c .before .cold-work .ensures) at (c .boot-ready .ensures)))
+    (rw (
+      eq-eqb (length (a .image .now)) imageWords (c .before .before .before .before .if1 .left),
+      told-yes (c .before .before .before .inputs-ok .ensures) (c .before .before .if2 .left),
+    ) (rw (c .before .cold-work .ensures) at (c .boot-ready .ensures)))
 
 pub open-cold-boot-spec : {M : Type 1} → statement M
 open-cold-boot-spec =

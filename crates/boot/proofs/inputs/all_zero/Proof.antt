@@ -25,7 +25,9 @@ shared-slice-read-if1 : tie.Need-shared-slice-read-if1 Inv-loop μ-loop
 shared-slice-read-if1 c = search needs
 
 returns : tie.Need-returns Inv-loop μ-loop
-returns c = sym (all-fails (λ j. eqb (getD (c .before .before .before .before .args .s .now) j 0) 0) (c .before .before .before .loop .k) 48 (ne-eqb _ _ (c .if1 .taken)) (omega arith))
+returns c =
+    sym (all-fails (λ j. eqb (getD (c .before .before .before .before .args .s .now) j 0) 0) (c .before .before .before .loop .k) 48
+    (ne-eqb _ _ (c .if1 .taken)) (omega arith))
 
 add-k : tie.Need-add-k Inv-loop μ-loop
 add-k c = search needs
@@ -34,7 +36,11 @@ loop-less : tie.Need-loop-less Inv-loop μ-loop
 loop-less c = search needs
 
 loop-again : tie.Need-loop-again Inv-loop μ-loop
-loop-again c = (omega arith, all-more (λ j. eqb (getD (c .before .before .before .before .args .s .now) j 0) 0) (c .before .before .before .loop .k) (c .before .before .before .loop .inv .1) (eq-eqb _ _ (c .if1 .left)))
+loop-again c = (
+  omega arith,
+  all-more (λ j. eqb (getD (c .before .before .before .before .args .s .now) j 0) 0) (c .before .before .before .loop .k)
+      (c .before .before .before .loop .inv .1) (eq-eqb _ _ (c .if1 .left)),
+)
 
 returns-2 : tie.Need-returns-2 Inv-loop μ-loop
 returns-2 c = let e : c .before .loop .k ≡ 48 = omega arith in sym (rw e at (c .before .loop .inv .1))

@@ -20,7 +20,12 @@ all-zero-requires c κs = search needs
 
 returns-3 : tie.Need-returns-3
 unfolding inputsOk
-returns-3 c = rw (eq-eqb (length (c .before .before .before .before .before .args .digest .now)) 48 (c .before .before .if1 .left), eq-eqb (length (c .before .before .before .before .before .args .secret .now)) 48 (c .before .if2 .left), c .all-zero .ensures)
+returns-3 c =
+    rw (
+      eq-eqb (length (c .before .before .before .before .before .args .digest .now)) 48 (c .before .before .if1 .left),
+      eq-eqb (length (c .before .before .before .before .before .args .secret .now)) 48 (c .before .if2 .left),
+      c .all-zero .ensures,
+    )
 
 pub inputs-ok-spec : {M : Type 1} → statement M
 inputs-ok-spec = tie.close (tie.spec returns returns-2 all-zero-requires returns-3)

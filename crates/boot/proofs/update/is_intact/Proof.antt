@@ -19,14 +19,23 @@ shared-slice-read-if2 c = search needs
 
 returns-2 : tie.Need-returns-2
 unfolding intact
-returns-2 c = rw (eq-eqb (getD (c .before .before .before .before .before .args .image .now) 0 0) 1 (c .before .before .if1 .left), ne-eqb (getD (c .before .before .before .before .before .args .image .now) 1 0) 1 (c .if2 .taken))
+returns-2 c =
+    rw (
+      eq-eqb (getD (c .before .before .before .before .before .args .image .now) 0 0) 1 (c .before .before .if1 .left),
+      ne-eqb (getD (c .before .before .before .before .before .args .image .now) 1 0) 1 (c .if2 .taken),
+    )
 
 well-formed-requires : tie.Need-well-formed-requires
 well-formed-requires c κs = search needs
 
 returns-3 : tie.Need-returns-3
 unfolding intact
-returns-3 c = rw (eq-eqb (getD (c .before .before .before .before .before .before .before .args .image .now) 0 0) 1 (c .before .before .before .before .if1 .left), eq-eqb (getD (c .before .before .before .before .before .before .before .args .image .now) 1 0) 1 (c .before .before .if2 .left), told-no (c .before .well-formed .ensures) (c .if3 .taken))
+returns-3 c =
+    rw (
+      eq-eqb (getD (c .before .before .before .before .before .before .before .args .image .now) 0 0) 1 (c .before .before .before .before .if1 .left),
+      eq-eqb (getD (c .before .before .before .before .before .before .before .args .image .now) 1 0) 1 (c .before .before .if2 .left),
+      told-no (c .before .well-formed .ensures) (c .if3 .taken),
+    )
 
 root-index-requires : tie.Need-root-index-requires
 root-index-requires c κs = search needs
@@ -36,7 +45,16 @@ root-matches-requires c κs = search needs
 
 returns-4 : tie.Need-returns-4
 unfolding intact
-returns-4 c = rw (eq-eqb (getD (c .before .before .before .before .before .before .before .before .before .args .image .now) 0 0) 1 (c .before .before .before .before .before .before .if1 .left), eq-eqb (getD (c .before .before .before .before .before .before .before .before .before .args .image .now) 1 0) 1 (c .before .before .before .before .if2 .left), told-yes (c .before .before .before .well-formed .ensures) (c .before .before .if3 .left)) (c .root-matches .ensures)
+returns-4 c =
+    rw (
+      eq-eqb (getD (c .before .before .before .before .before .before .before .before .before .args .image .now) 0 0) 1
+          (c .before .before .before .before .before .before .if1 .left),
+      eq-eqb
+          (getD (c .before .before .before .before .before .before .before .before .before .args .image .now) 1 0) 1
+          (c .before .before .before .before .if2 .left),
+      told-yes (c .before .before .before .well-formed .ensures)
+          (c .before .before .if3 .left),
+    ) (c .root-matches .ensures)
 
 pub is-intact-spec : {M : Type 1} → statement M
 is-intact-spec =

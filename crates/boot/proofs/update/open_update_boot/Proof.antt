@@ -33,7 +33,10 @@ unfolding openUpdateBoot workAt
 returns-2 c =
     let a = c .before .before .before .before .before .before .before .args in
     booted-told (c .boot-refused2 .result) (openUpdateBoot (a .image .now) (bootOf (a .digest .now) (a .secret .now)) (a .verdict))
-    (rw (eq-eqb (length (a .image .now)) imageWords (c .before .before .before .if1 .left), told-no (c .before .before .inputs-ok .ensures) (c .before .if2 .taken)) (c .boot-refused2 .ensures))
+    (rw (
+      eq-eqb (length (a .image .now)) imageWords (c .before .before .before .if1 .left),
+      told-no (c .before .before .inputs-ok .ensures) (c .before .if2 .taken),
+    ) (c .boot-refused2 .ensures))
 
 is-intact-requires : tie.Need-is-intact-requires
 is-intact-requires c κs = search needs
@@ -49,7 +52,11 @@ unfolding openUpdateBoot workAt
 returns-3 c =
     let a = c .before .before .before .before .before .before .before .before .before .before .args in
     booted-told (c .boot-ready .result) (openUpdateBoot (a .image .now) (bootOf (a .digest .now) (a .secret .now)) (a .verdict))
-    (rw (eq-eqb (length (a .image .now)) imageWords (c .before .before .before .before .before .before .if1 .left), told-yes (c .before .before .before .before .before .inputs-ok .ensures) (c .before .before .before .before .if2 .left), told-no (c .before .before .before .is-intact .ensures) (c .before .before .if3 .taken)) (rw (c .before .bare-work .ensures) at (c .boot-ready .ensures)))
+    (rw (
+      eq-eqb (length (a .image .now)) imageWords (c .before .before .before .before .before .before .if1 .left),
+      told-yes (c .before .before .before .before .before .inputs-ok .ensures) (c .before .before .before .before .if2 .left),
+      told-no (c .before .before .before .is-intact .ensures) (c .before .before .if3 .taken),
+    ) (rw (c .before .bare-work .ensures) at (c .boot-ready .ensures)))
 
 bare-work-requires-2 : tie.Need-bare-work-requires-2
 bare-work-requires-2 c κs = search needs
@@ -62,7 +69,12 @@ unfolding openUpdateBoot workAt
 returns-4 c =
     let a = c .before .before .before .before .before .before .before .before .before .before .before .args in
     booted-told (c .boot-ready2 .result) (openUpdateBoot (a .image .now) (bootOf (a .digest .now) (a .secret .now)) (a .verdict))
-    (rw (eq-eqb (length (a .image .now)) imageWords (c .before .before .before .before .before .before .before .if1 .left), told-yes (c .before .before .before .before .before .before .inputs-ok .ensures) (c .before .before .before .before .before .if2 .left), told-yes (c .before .before .before .before .is-intact .ensures) (c .before .before .before .if3 .left), not-true (a .verdict) (c .before .before .if4 .taken)) (rw (c .before .bare-work2 .ensures) at (c .boot-ready2 .ensures)))
+    (rw (
+      eq-eqb (length (a .image .now)) imageWords (c .before .before .before .before .before .before .before .if1 .left),
+      told-yes (c .before .before .before .before .before .before .inputs-ok .ensures) (c .before .before .before .before .before .if2 .left),
+      told-yes (c .before .before .before .before .is-intact .ensures) (c .before .before .before .if3 .left),
+      not-true (a .verdict) (c .before .before .if4 .taken),
+    ) (rw (c .before .bare-work2 .ensures) at (c .boot-ready2 .ensures)))
 
 update-work-requires : tie.Need-update-work-requires
 update-work-requires c κs = digest-length _ (told-yes (c .before .before .before .before .inputs-ok .ensures) (c .before .before .before .if2 .left))
@@ -75,7 +87,12 @@ unfolding openUpdateBoot workAt
 returns-5 c =
     let a = c .before .before .before .before .before .before .before .before .before .before .before .args in
     booted-told (c .boot-ready3 .result) (openUpdateBoot (a .image .now) (bootOf (a .digest .now) (a .secret .now)) (a .verdict))
-    (rw (eq-eqb (length (a .image .now)) imageWords (c .before .before .before .before .before .before .before .if1 .left), told-yes (c .before .before .before .before .before .before .inputs-ok .ensures) (c .before .before .before .before .before .if2 .left), told-yes (c .before .before .before .before .is-intact .ensures) (c .before .before .before .if3 .left), not-false (a .verdict) (c .before .before .if4 .left)) (rw (c .before .update-work .ensures) at (c .boot-ready3 .ensures)))
+    (rw (
+      eq-eqb (length (a .image .now)) imageWords (c .before .before .before .before .before .before .before .if1 .left),
+      told-yes (c .before .before .before .before .before .before .inputs-ok .ensures) (c .before .before .before .before .before .if2 .left),
+      told-yes (c .before .before .before .before .is-intact .ensures) (c .before .before .before .if3 .left),
+      not-false (a .verdict) (c .before .before .if4 .left),
+    ) (rw (c .before .update-work .ensures) at (c .boot-ready3 .ensures)))
 
 pub open-update-boot-spec : {M : Type 1} → statement M
 open-update-boot-spec =

@@ -55,7 +55,8 @@ unfolding rootMatches word
 returns c =
     let a = c .before .before .before .before .before .before .args in
     sym (ap (λ (r : ℕ). allBelow registerWords (same (a .image .now) r)) (sym (c .before .before .before .before .before .before .pre .0))
-    ∙ all-fails (same (a .image .now) (a .root)) (c .before .before .before .before .loop .k) registerWords (ne-eqb _ _ (λ e. c .if1 .taken (c .before .before .word .ensures ∙ e ∙ sym (c .before .word2 .ensures)))) (omega arith))
+    ∙ all-fails (same (a .image .now) (a .root)) (c .before .before .before .before .loop .k) registerWords
+    (ne-eqb _ _ (λ e. c .if1 .taken (c .before .before .word .ensures ∙ e ∙ sym (c .before .word2 .ensures)))) (omega arith))
 
 add-k : tie.Need-add-k Inv-loop μ-loop
 add-k c = search needs
@@ -65,8 +66,11 @@ loop-less c = search needs
 
 loop-again : tie.Need-loop-again Inv-loop μ-loop
 loop-again c =
-    let a = c .before .before .before .before .before .before .args in
-    (omega arith, all-more (same (a .image .now) (a .root)) (c .before .before .before .before .loop .k) (c .before .before .before .before .loop .inv .1) (eq-eqb _ _ (sym (c .before .before .word .ensures) ∙ c .if1 .left ∙ c .before .word2 .ensures)))
+    let a = c .before .before .before .before .before .before .args in (
+      omega arith,
+      all-more (same (a .image .now) (a .root)) (c .before .before .before .before .loop .k) (c .before .before .before .before .loop .inv .1)
+          (eq-eqb _ _ (sym (c .before .before .word .ensures) ∙ c .if1 .left ∙ c .before .word2 .ensures)),
+    )
 
 returns-2 : tie.Need-returns-2 Inv-loop μ-loop
 unfolding rootMatches word

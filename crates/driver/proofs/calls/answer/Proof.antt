@@ -48,12 +48,24 @@ put32-requires : tie.Need-put32-requires
 put32-requires c κs = search needs
 
 array-share-prefix-buffer : tie.Need-array-share-prefix-buffer
-array-share-prefix-buffer c = omega (arith, length-front (c .before .before .before .before .before .before .before .before .before .before .untouched .result) (c .before .before .before .before .before .before .answer-act .last .1 .1 .0) (c .before .before .before .before .before .before .before .before .before .before .before .string-length .result) (c .before .before .before .before .before .before .answer-act .kept .1 .1 .0))
+array-share-prefix-buffer c =
+    omega (
+      arith,
+      length-front (c .before .before .before .before .before .before .before .before .before .before .untouched .result)
+          (c .before .before .before .before .before .before .answer-act .last .1 .1 .0)
+          (c .before .before .before .before .before .before .before .before .before .before .before .string-length .result)
+          (c .before .before .before .before .before .before .answer-act .kept .1 .1 .0),
+    )
 
 slice-aggregate-put : tie.Need-slice-aggregate-put
 slice-aggregate-put c =
-    let front = length-front (c .before .before .before .before .before .before .before .before .before .before .before .untouched .result) (c .before .before .before .before .before .before .before .answer-act .last .1 .1 .0) (c .before .before .before .before .before .before .before .before .before .before .before .before .string-length .result) (c .before .before .before .before .before .before .before .answer-act .kept .1 .1 .0) in
-    sym (length-take-le _ (c .before .before .before .before .before .before .before .answer-act .last .1 .1 .0 ++ drop (c .before .before .before .before .before .before .before .before .before .before .before .before .string-length .result) (c .before .before .before .before .before .before .before .before .before .before .before .untouched .result)) (omega (arith, front)))
+    let front = length-front (c .before .before .before .before .before .before .before .before .before .before .before .untouched .result)
+    (c .before .before .before .before .before .before .before .answer-act .last .1 .1 .0)
+    (c .before .before .before .before .before .before .before .before .before .before .before .before .string-length .result)
+    (c .before .before .before .before .before .before .before .answer-act .kept .1 .1 .0) in
+    sym (length-take-le _ (c .before .before .before .before .before .before .before .answer-act .last .1 .1 .0 ++ drop
+    (c .before .before .before .before .before .before .before .before .before .before .before .before .string-length .result)
+    (c .before .before .before .before .before .before .before .before .before .before .before .untouched .result)) (omega (arith, front)))
 
 put-requires : tie.Need-put-requires
 put-requires c κs = search needs

@@ -13,7 +13,8 @@ slice-aggregate-put-image : tie.Need-slice-aggregate-put-image
 slice-aggregate-put-image c = sym (length-take-le _ (c .before .before .before .args .memory .now) (omega arith))
 
 put-image-requires : tie.Need-put-image-requires
-put-image-requires c κs = rw (length-take-le (c .before .before .before .args .state .words) (c .before .before .before .args .memory .now) (omega arith)) (omega arith)
+put-image-requires c κs =
+    rw (length-take-le (c .before .before .before .args .state .words) (c .before .before .before .args .memory .now) (omega arith)) (omega arith)
 
 returns : tie.Need-returns
 returns c = search needs

@@ -39,8 +39,12 @@ loop-less : tie.Need-loop-less Inv-loop μ-loop
 loop-less c = search needs
 
 loop-again : tie.Need-loop-again Inv-loop μ-loop
-loop-again c = let l = c .before .before .before .loop in
-    (omega arith, simp length-set (l .inv .1), tab-more _ (l .out) (l .k) (c .byte-of .result) (omega arith) (c .byte-of .ensures ∙ ap (λ (x : ℕ). byteOf x (l .k % 4)) (c .before .word .ensures)) (l .inv .2))
+loop-again c = let l = c .before .before .before .loop in (
+  omega arith,
+  simp length-set (l .inv .1),
+  tab-more _ (l .out) (l .k) (c .byte-of .result) (omega arith)
+      (c .byte-of .ensures ∙ ap (λ (x : ℕ). byteOf x (l .k % 4)) (c .before .word .ensures)) (l .inv .2),
+)
 
 returns : tie.Need-returns Inv-loop μ-loop
 unfolding answerOf

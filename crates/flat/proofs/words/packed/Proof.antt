@@ -38,8 +38,12 @@ loop-less : tie.Need-loop-less Inv-loop μ-loop
 loop-less c = search needs
 
 loop-again : tie.Need-loop-again Inv-loop μ-loop
-loop-again c = let l = c .before .before .loop in
-    (omega arith, simp length-set (l .inv .1), tab-more _ (l .out) (l .k) (c .read32 .result) (omega arith) (c .read32 .ensures ∙ ap (le32 (c .before .before .before .before .args .answer .now)) (omega arith)) (l .inv .2))
+loop-again c = let l = c .before .before .loop in (
+  omega arith,
+  simp length-set (l .inv .1),
+  tab-more _ (l .out) (l .k) (c .read32 .result) (omega arith)
+      (c .read32 .ensures ∙ ap (le32 (c .before .before .before .before .args .answer .now)) (omega arith)) (l .inv .2),
+)
 
 returns : tie.Need-returns Inv-loop μ-loop
 unfolding wordsAt

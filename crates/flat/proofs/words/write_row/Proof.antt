@@ -12,7 +12,8 @@ use Rattle.flat.proofs.words.write_row.Statement.{statement}
 use Rattle.flat.proofs.words.write_row.Tie as tie
 
 abbrev Inv-loop : tie.InvT-loop
-Inv-loop head register journey node secret answer out₀ k₀ out k = (k ≤ workSize) × (length (out) ≡ workSize) × (take k (out) ≡ tab k (λ i. getD (rowOf head register journey node secret answer) i 0))
+Inv-loop head register journey node secret answer out₀ k₀ out k =
+    (k ≤ workSize) × (length (out) ≡ workSize) × (take k (out) ≡ tab k (λ i. getD (rowOf head register journey node secret answer) i 0))
 
 abbrev μ-loop : tie.MeasureT-loop
 μ-loop head register journey node secret answer out₀ k₀ out k = workSize - k

@@ -18,7 +18,9 @@ add-result : tie.Need-add-result
 add-result c = search needs
 
 returns : tie.Need-returns
-returns c = le16-read (c .before .before .before .args .s .now) (c .before .before .before .args .at) _ _ (c .before .byte-after .ensures .0) (c .byte-after2 .ensures .0)
+returns c =
+    le16-read (c .before .before .before .args .s .now) (c .before .before .before .args .at) _ _ (c .before .byte-after .ensures .0)
+    (c .byte-after2 .ensures .0)
 
 pub read16-spec : {M : Type 1} → statement M
 read16-spec =

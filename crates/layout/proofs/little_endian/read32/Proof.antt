@@ -36,7 +36,10 @@ add-result-3 : tie.Need-add-result-3
 add-result-3 c = search needs
 
 returns : tie.Need-returns
-returns c = le32-read (c .before .before .before .before .before .args .s .now) (c .before .before .before .before .before .args .at) _ _ (c .before .before .before .byte-after .ensures .0) (c .before .before .byte-after2 .ensures .0) _ _ (c .before .byte-after3 .ensures .0) (c .byte-after4 .ensures .0)
+returns c =
+    le32-read (c .before .before .before .before .before .args .s .now) (c .before .before .before .before .before .args .at) _ _
+    (c .before .before .before .byte-after .ensures .0) (c .before .before .byte-after2 .ensures .0) _ _ (c .before .byte-after3 .ensures .0)
+    (c .byte-after4 .ensures .0)
 
 pub read32-spec : {M : Type 1} → statement M
 read32-spec =

@@ -20,7 +20,12 @@ same-length c = search needs
 returns-2 : tie.Need-returns-2
 unfolding step stepOf machineOf handOf resultOf bufferAfter
 returns-2 c =
-    rw (not-false (c .before .before .before .before .before .before .before .before .before .args .hand .present) (c .before .before .before .before .before .if1 .left), ← c .before .before .answer .ensures .0, c .before .before .answer .ensures .1) (refl, refl)
+    rw (
+      not-false (c .before .before .before .before .before .before .before .before .before .args .hand .present)
+          (c .before .before .before .before .before .if1 .left),
+      ← c .before .before .answer .ensures .0,
+      c .before .before .answer .ensures .1,
+    ) (refl, refl)
 
 pub answer-call-spec : {M : Type 1} → statement M
 answer-call-spec = tie.close (tie.spec returns answer-requires same-length returns-2)

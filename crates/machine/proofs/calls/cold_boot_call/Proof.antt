@@ -14,7 +14,9 @@ after-boot-requires c κs = search needs
 
 returns : tie.Need-returns
 unfolding step machineOf
-returns c = λ b. rw (c .after-boot .ensures, c .before .open-cold-boot .ensures .0) (boot-step (c .before .before .before .before .before .args .hand) (c .before .before .before .before .before .args .image .now) _ b)
+returns c =
+    λ b. rw (c .after-boot .ensures, c .before .open-cold-boot .ensures .0)
+    (boot-step (c .before .before .before .before .before .args .hand) (c .before .before .before .before .before .args .image .now) _ b)
 
 pub cold-boot-call-spec : {M : Type 1} → statement M
 cold-boot-call-spec = tie.close (tie.spec open-cold-boot-requires after-boot-requires returns)

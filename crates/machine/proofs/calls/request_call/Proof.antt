@@ -19,7 +19,8 @@ number-of-requires c κs = search needs
 
 returns : tie.Need-returns
 unfolding step stepOf machineOf handOf resultOf
-returns c = λ b. rw (← c .before .before .before .open-request .ensures .0, c .before .enum-told2 .given .1, c .number-of .ensures, c .before .enum-told2 .given .1)
+returns c =
+    λ b. rw (← c .before .before .before .open-request .ensures .0, c .before .enum-told2 .given .1, c .number-of .ensures, c .before .enum-told2 .given .1)
 
 left-requires : tie.Need-left-requires
 left-requires c κs = search needs

@@ -19,7 +19,14 @@ same-length c = search needs
 returns-2 : tie.Need-returns-2
 unfolding step stepOf machineOf handOf resultOf
 returns-2 c =
-    λ b. rw (not-false (c .before .before .before .before .before .before .before .before .before .before .before .args .hand .present) (c .before .before .before .before .before .before .before .before .if1 .left), ← c .before .before .before .before .before .store .ensures .0, ← c .before .before .before .before .before .store .ensures .1, ne-eqb (c .before .before .before .before .before .store .result .number) 0 (c .if2 .taken))
+    λ b. rw (
+      not-false (c .before .before .before .before .before .before .before .before .before .before .before .args .hand .present)
+          (c .before .before .before .before .before .before .before .before .if1 .left),
+      ← c .before .before .before .before .before .store .ensures .0,
+      ←
+          c .before .before .before .before .before .store .ensures .1,
+      ne-eqb (c .before .before .before .before .before .store .result .number) 0 (c .if2 .taken),
+    )
 
 left-requires : tie.Need-left-requires
 left-requires c κs = search needs
@@ -30,7 +37,16 @@ same-length-2 c = search needs
 returns-3 : tie.Need-returns-3
 unfolding step stepOf machineOf handOf resultOf
 returns-3 c =
-    λ b. rw (not-false (c .before .before .before .before .before .before .before .before .before .before .before .before .args .hand .present) (c .before .before .before .before .before .before .before .before .before .if1 .left), ← c .before .before .before .before .before .before .store .ensures .0, ← c .before .before .before .before .before .before .store .ensures .1, eq-eqb (c .before .before .before .before .before .before .store .result .number) 0 (c .before .if2 .left), c .left .ensures)
+    λ b. rw (
+      not-false (c .before .before .before .before .before .before .before .before .before .before .before .before .args .hand .present)
+          (c .before .before .before .before .before .before .before .before .before .if1 .left),
+      ←
+          c .before .before .before .before .before .before .store .ensures .0,
+      ← c .before .before .before .before .before .before .store .ensures .1,
+      eq-eqb
+          (c .before .before .before .before .before .before .store .result .number) 0 (c .before .if2 .left),
+      c .left .ensures,
+    )
 
 pub store-call-spec : {M : Type 1} → statement M
 store-call-spec =

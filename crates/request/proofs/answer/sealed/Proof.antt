@@ -43,7 +43,8 @@ slice-aggregate-copy c = search needs
 slice-aggregate-copy-2 : tie.Need-slice-aggregate-copy-2
 slice-aggregate-copy-2 c =
     let g = c .before .before .before .before .before .before .before .before .before .before in
-    whole-length (g .args .code) 0 (g .args .rest .now) (c .before .before .before .before .before .before .before .copy .last .1 .0) [] (g .pre) (c .before .before .before .before .before .before .before .copy .ensures .1)
+    whole-length (g .args .code) 0 (g .args .rest .now) (c .before .before .before .before .before .before .before .copy .last .1 .0) [] (g .pre)
+    (c .before .before .before .before .before .before .before .copy .ensures .1)
 
 copy-requires-2 : tie.Need-copy-requires-2
 copy-requires-2 c κs = search needs
@@ -52,7 +53,10 @@ returns : tie.Need-returns
 returns c =
     let g = c .before .before .before .before .before .before .before .before .before .before .before .before in
     rw (c .before .copy2 .ensures .1)
-    (sealed-bytes (g .args .code) (c .before .before .before .before .before .checksum .result) (g .args .rest .now) (c .before .before .before .before .before .before .before .before .before .copy .last .1 .0) (c .before .before .before .before .four .result) (g .pre) (c .before .before .before .before .before .before .before .before .before .copy .ensures .1) (c .before .before .before .before .four .ensures) (c .before .before .before .before .before .checksum .ensures))
+    (sealed-bytes (g .args .code) (c .before .before .before .before .before .checksum .result) (g .args .rest .now)
+    (c .before .before .before .before .before .before .before .before .before .copy .last .1 .0) (c .before .before .before .before .four .result) (g .pre)
+    (c .before .before .before .before .before .before .before .before .before .copy .ensures .1) (c .before .before .before .before .four .ensures)
+    (c .before .before .before .before .before .checksum .ensures))
 
 pub sealed-spec : {M : Type 1} → statement M
 sealed-spec =

@@ -38,13 +38,18 @@ ready-requires c κs = search needs
 returns : tie.Need-returns
 returns c =
     let a = c .before .before .before .before .before .before .before .args in
-    c .refused .ensures ∙ sym (by-screen disableAttestation (a .image .now) (requestOf disableCode (a .bytes .now) 0 [] false) (a .n) _ (ap (eqb (length (a .bytes .now))) (sym (c .before .before .before .before .before .before .before .pre))) (told (c .before .before .before .before .screen .ensures) (c .before .before .status .given .1)))
+    c .refused .ensures ∙ sym (by-screen disableAttestation (a .image .now) (requestOf disableCode (a .bytes .now) 0 [] false) (a .n) _
+    (ap (eqb (length (a .bytes .now))) (sym (c .before .before .before .before .before .before .before .pre)))
+    (told (c .before .before .before .before .screen .ensures) (c .before .before .status .given .1)))
 
 returns-2 : tie.Need-returns-2
 unfolding screenedOpened workAt
 returns-2 c =
     let a = c .before .before .before .before .before .before .before .before .args in
-    (rw (c .before .plain-work .ensures) at (c .ready .ensures)) ∙ sym (by-screen disableAttestation (a .image .now) (requestOf disableCode (a .bytes .now) 0 [] false) (a .n) _ (ap (eqb (length (a .bytes .now))) (sym (c .before .before .before .before .before .before .before .before .pre))) (told (c .before .before .before .before .before .screen .ensures) (c .before .before .before .enum-told .given .1)))
+    (rw (c .before .plain-work .ensures) at (c .ready .ensures)) ∙ sym (by-screen disableAttestation (a .image .now)
+    (requestOf disableCode (a .bytes .now) 0 [] false) (a .n) _
+    (ap (eqb (length (a .bytes .now))) (sym (c .before .before .before .before .before .before .before .before .pre)))
+    (told (c .before .before .before .before .before .screen .ensures) (c .before .before .before .enum-told .given .1)))
 
 pub open-disable-spec : {M : Type 1} → statement M
 open-disable-spec =

@@ -36,7 +36,12 @@ part-plain-work-start : tie.Need-part-plain-work-start
 part-plain-work-start c = search needs
 
 part-plain-work-end : tie.Need-part-plain-work-end
-part-plain-work-end c = omega (arith, handoff-length (c .before .before .before .before .before .before .before .before .args .handoff .now) (told (c .before .handoff-ok .ensures) (c .if1 .taken)))
+part-plain-work-end c =
+    omega (
+      arith,
+      handoff-length (c .before .before .before .before .before .before .before .before .args .handoff .now)
+          (told (c .before .handoff-ok .ensures) (c .if1 .taken)),
+    )
 
 plain-work-requires : tie.Need-plain-work-requires
 plain-work-requires c κs = search needs
@@ -50,19 +55,31 @@ refused-requires-2 c κs = search needs
 returns : tie.Need-returns
 returns c =
     let a = c .before .before .before .before .before .before .before .before .args in
-    c .refused .ensures ∙ sym (by-screen identityKey (a .image .now) (requestOf identityCode (a .bytes .now) 0 (a .handoff .now) false) (a .n) _ (ap (eqb (length (a .bytes .now))) (sym (c .before .before .before .before .before .before .before .before .pre))) (told (c .before .before .before .before .screen .ensures) (c .before .before .status .given .1)))
+    c .refused .ensures ∙ sym (by-screen identityKey (a .image .now) (requestOf identityCode (a .bytes .now) 0 (a .handoff .now) false) (a .n) _
+    (ap (eqb (length (a .bytes .now))) (sym (c .before .before .before .before .before .before .before .before .pre)))
+    (told (c .before .before .before .before .screen .ensures) (c .before .before .status .given .1)))
 
 returns-2 : tie.Need-returns-2
 unfolding screenedOpened workAt
 returns-2 c =
     let a = c .before .before .before .before .before .before .before .before .before .before .before .args in
-    rw ((by-screen identityKey (a .image .now) (requestOf identityCode (a .bytes .now) 0 (a .handoff .now) false) (a .n) _ (ap (eqb (length (a .bytes .now))) (sym (c .before .before .before .before .before .before .before .before .before .before .before .pre))) (told (c .before .before .before .before .before .before .before .screen .ensures) (c .before .before .before .before .before .enum-told .given .1))), told (c .before .before .before .before .handoff-ok .ensures) (c .before .before .before .if1 .taken)) (rw (c .before .plain-work .ensures) at (c .ready .ensures))
+    let r = requestOf identityCode (a .bytes .now) 0 (a .handoff .now) false in
+    let long = ap (eqb (length (a .bytes .now))) (sym (c .before .before .before .before .before .before .before .before .before .before .before .pre)) in
+    let screened = told (c .before .before .before .before .before .before .before .screen .ensures) (c .before .before .before .before .before .enum-told .given .1) in
+    rw (by-screen identityKey (a .image .now) r (a .n) _ long screened, told (c .before .before .before .before .handoff-ok .ensures) (c .before .before .before .if1 .taken))
+    (rw (c .before .plain-work .ensures) at (c .ready .ensures))
 
 returns-3 : tie.Need-returns-3
 unfolding screenedOpened
 returns-3 c =
     let a = c .before .before .before .before .before .before .before .before .before .args in
-    rw ((by-screen identityKey (a .image .now) (requestOf identityCode (a .bytes .now) 0 (a .handoff .now) false) (a .n) _ (ap (eqb (length (a .bytes .now))) (sym (c .before .before .before .before .before .before .before .before .before .pre))) (told (c .before .before .before .before .before .screen .ensures) (c .before .before .before .enum-told .given .1))), told (c .before .before .handoff-ok .ensures) (c .before .if1 .left)) (c .refused2 .ensures)
+    rw (
+      (by-screen identityKey (a .image .now) (requestOf identityCode (a .bytes .now) 0 (a .handoff .now) false) (a .n) _ (ap (eqb (length (a .bytes .now)))
+          (sym (c .before .before .before .before .before .before .before .before .before .pre))) (told
+          (c .before .before .before .before .before .screen .ensures)
+          (c .before .before .before .enum-told .given .1))),
+      told (c .before .before .handoff-ok .ensures) (c .before .if1 .left),
+    ) (c .refused2 .ensures)
 
 pub open-identity-spec : {M : Type 1} → statement M
 open-identity-spec =

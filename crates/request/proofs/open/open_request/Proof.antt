@@ -34,7 +34,8 @@ unfolding openRequest viewIn
 returns-2 c =
     let a = c .before .before .before .before .before .before .before .args in
     opened-told (c .refused2 .result) (openRequest (a .image .now) (requestOf (a .code) (a .bytes .now) (a .caller) (a .handoff .now) (a .verdict)))
-    (rw (eq-eqb (length (a .image .now)) imageWords (c .before .before .before .if1 .left), ne-eqb (getD (a .image .now) markAt 0) 1 (c .before .if2 .taken)) (c .refused2 .ensures))
+    (rw (eq-eqb (length (a .image .now)) imageWords (c .before .before .before .if1 .left), ne-eqb (getD (a .image .now) markAt 0) 1 (c .before .if2 .taken))
+    (c .refused2 .ensures))
 
 open-stash-requires : tie.Need-open-stash-requires
 open-stash-requires c κs = (c .before .before .before .if1 .left, refl)
@@ -46,7 +47,8 @@ returns-3 c =
     opened-told (c .open-stash .result) (openRequest (a .image .now) (requestOf (a .code) (a .bytes .now) (a .caller) (a .handoff .now) (a .verdict)))
     (rw (c .before .match .keys1)
     (c .open-stash .ensures
-    ∙ sym (known (a .image .now) (requestOf stashCode (a .bytes .now) (a .caller) (a .handoff .now) (a .verdict)) (c .before .before .before .before .if1 .left) (c .before .before .if2 .left) refl)))
+    ∙ sym (known (a .image .now) (requestOf stashCode (a .bytes .now) (a .caller) (a .handoff .now) (a .verdict))
+    (c .before .before .before .before .if1 .left) (c .before .before .if2 .left) refl)))
 
 open-disable-requires : tie.Need-open-disable-requires
 open-disable-requires c κs = search needs
@@ -58,7 +60,8 @@ returns-4 c =
     opened-told (c .open-disable .result) (openRequest (a .image .now) (requestOf (a .code) (a .bytes .now) (a .caller) (a .handoff .now) (a .verdict)))
     (rw (c .before .match .keys2)
     (c .open-disable .ensures
-    ∙ sym (known (a .image .now) (requestOf disableCode (a .bytes .now) (a .caller) (a .handoff .now) (a .verdict)) (c .before .before .before .before .if1 .left) (c .before .before .if2 .left) refl)))
+    ∙ sym (known (a .image .now) (requestOf disableCode (a .bytes .now) (a .caller) (a .handoff .now) (a .verdict))
+    (c .before .before .before .before .if1 .left) (c .before .before .if2 .left) refl)))
 
 open-identity-requires : tie.Need-open-identity-requires
 open-identity-requires c κs = search needs
@@ -70,7 +73,8 @@ returns-5 c =
     opened-told (c .open-identity .result) (openRequest (a .image .now) (requestOf (a .code) (a .bytes .now) (a .caller) (a .handoff .now) (a .verdict)))
     (rw (c .before .match .keys3)
     (c .open-identity .ensures
-    ∙ sym (known (a .image .now) (requestOf identityCode (a .bytes .now) (a .caller) (a .handoff .now) (a .verdict)) (c .before .before .before .before .if1 .left) (c .before .before .if2 .left) refl)))
+    ∙ sym (known (a .image .now) (requestOf identityCode (a .bytes .now) (a .caller) (a .handoff .now) (a .verdict))
+    (c .before .before .before .before .if1 .left) (c .before .before .if2 .left) refl)))
 
 open-verify-requires : tie.Need-open-verify-requires
 open-verify-requires c κs = search needs
@@ -82,7 +86,8 @@ returns-6 c =
     opened-told (c .open-verify .result) (openRequest (a .image .now) (requestOf (a .code) (a .bytes .now) (a .caller) (a .handoff .now) (a .verdict)))
     (rw (c .before .match .keys4)
     (c .open-verify .ensures
-    ∙ sym (known (a .image .now) (requestOf verifyCode (a .bytes .now) (a .caller) (a .handoff .now) (a .verdict)) (c .before .before .before .before .if1 .left) (c .before .before .if2 .left) refl)))
+    ∙ sym (known (a .image .now) (requestOf verifyCode (a .bytes .now) (a .caller) (a .handoff .now) (a .verdict))
+    (c .before .before .before .before .if1 .left) (c .before .before .if2 .left) refl)))
 
 refused-requires-3 : tie.Need-refused-requires-3
 refused-requires-3 c κs = search needs
@@ -93,7 +98,14 @@ returns-7 c =
     let a = c .before .before .before .before .before .before .before .before .args in
     let r = c .before .match .rest in
     opened-told (c .refused3 .result) (openRequest (a .image .now) (requestOf (a .code) (a .bytes .now) (a .caller) (a .handoff .now) (a .verdict)))
-    (rw (eq-eqb (length (a .image .now)) imageWords (c .before .before .before .before .if1 .left), eq-eqb (getD (a .image .now) markAt 0) 1 (c .before .before .if2 .left), ne-eqb (a .code) stashCode (r .0 .0 .0 .1), ne-eqb (a .code) disableCode (r .0 .0 .1), ne-eqb (a .code) identityCode (r .0 .1), ne-eqb (a .code) verifyCode (r .1)) (c .refused3 .ensures))
+    (rw (
+      eq-eqb (length (a .image .now)) imageWords (c .before .before .before .before .if1 .left),
+      eq-eqb (getD (a .image .now) markAt 0) 1 (c .before .before .if2 .left),
+      ne-eqb (a .code) stashCode (r .0 .0 .0 .1),
+      ne-eqb (a .code) disableCode (r .0 .0 .1),
+      ne-eqb (a .code) identityCode (r .0 .1),
+      ne-eqb (a .code) verifyCode (r .1),
+    ) (c .refused3 .ensures))
 
 pub open-request-spec : {M : Type 1} → statement M
 open-request-spec =

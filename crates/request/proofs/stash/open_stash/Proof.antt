@@ -32,12 +32,16 @@ stash-ready-requires c κs =
 returns : tie.Need-returns
 returns c =
     let a = c .before .before .before .before .before .before .before .args in
-    c .refused .ensures ∙ sym (by-screen stashMeasurement (a .image .now) (requestOf stashCode (a .bytes .now) (a .caller) [] false) (a .n) _ (ap (eqb (length (a .bytes .now))) (sym (c .before .before .before .before .before .before .before .pre .1))) (told (c .before .before .before .before .screen .ensures) (c .before .before .status .given .1)))
+    c .refused .ensures ∙ sym (by-screen stashMeasurement (a .image .now) (requestOf stashCode (a .bytes .now) (a .caller) [] false) (a .n) _
+    (ap (eqb (length (a .bytes .now))) (sym (c .before .before .before .before .before .before .before .pre .1)))
+    (told (c .before .before .before .before .screen .ensures) (c .before .before .status .given .1)))
 
 returns-2 : tie.Need-returns-2
 returns-2 c =
     let a = c .before .before .before .before .before .before .args in
-    c .stash-ready .ensures ∙ sym (by-screen stashMeasurement (a .image .now) (requestOf stashCode (a .bytes .now) (a .caller) [] false) (a .n) _ (ap (eqb (length (a .bytes .now))) (sym (c .before .before .before .before .before .before .pre .1))) (told (c .before .before .before .screen .ensures) (c .before .enum-told .given .1)))
+    c .stash-ready .ensures ∙ sym (by-screen stashMeasurement (a .image .now) (requestOf stashCode (a .bytes .now) (a .caller) [] false) (a .n) _
+    (ap (eqb (length (a .bytes .now))) (sym (c .before .before .before .before .before .before .pre .1)))
+    (told (c .before .before .before .screen .ensures) (c .before .enum-told .given .1)))
 
 pub open-stash-spec : {M : Type 1} → statement M
 open-stash-spec =

@@ -38,7 +38,10 @@ returns-2 : tie.Need-returns-2
 unfolding screenedOpened viewIn workAt
 returns-2 c =
     let a = c .before .before .before .before .before .before .before .args in
-    rw (eq-eqb (getD (a .image .now) attestationAt 0) 1 (c .before .before .before .if1 .left), told (c .before .before .well-formed .ensures) (not-true _ (c .before .if2 .taken))) (c .refused .ensures)
+    rw (
+      eq-eqb (getD (a .image .now) attestationAt 0) 1 (c .before .before .before .if1 .left),
+      told (c .before .before .well-formed .ensures) (not-true _ (c .before .if2 .taken)),
+    ) (c .refused .ensures)
 
 free-index-requires : tie.Need-free-index-requires
 free-index-requires c κs = search needs
@@ -53,7 +56,14 @@ returns-3 : tie.Need-returns-3
 unfolding screenedOpened viewIn
 returns-3 c =
     let a = c .before .before .before .before .before .before .before .before .before .before .args in
-    rw (eq-eqb (getD (a .image .now) attestationAt 0) 1 (c .before .before .before .before .before .before .if1 .left), told (c .before .before .before .before .before .well-formed .ensures) (not-false _ (c .before .before .before .before .if2 .left)), lt-leb nodeCount (lowestFree nodeCount (treeIn (a .image .now))) (omega (arith, c .before .before .before .free-index .ensures .0))) (rw (c .before .stash-work .ensures) at (c .ready2 .ensures))
+    rw (
+      eq-eqb (getD (a .image .now) attestationAt 0) 1 (c .before .before .before .before .before .before .if1 .left),
+      told
+          (c .before .before .before .before .before .well-formed .ensures) (not-false _ (c .before .before .before .before .if2 .left)),
+      lt-leb nodeCount
+          (lowestFree nodeCount (treeIn (a .image .now)))
+          (omega (arith, c .before .before .before .free-index .ensures .0)),
+    ) (rw (c .before .stash-work .ensures) at (c .ready2 .ensures))
 
 declined-requires-2 : tie.Need-declined-requires-2
 declined-requires-2 c κs = search needs
@@ -65,7 +75,14 @@ returns-4 : tie.Need-returns-4
 unfolding screenedOpened viewIn workAt
 returns-4 c =
     let a = c .before .before .before .before .before .before .before .before .before .before .args in
-    rw (eq-eqb (getD (a .image .now) attestationAt 0) 1 (c .before .before .before .before .before .before .if1 .left), told (c .before .before .before .before .before .well-formed .ensures) (not-false _ (c .before .before .before .before .if2 .left)), le-leb nodeCount (lowestFree nodeCount (treeIn (a .image .now))) (omega (arith, c .before .before .before .free-index .ensures .0))) (rw (c .before .declined2 .ensures) at (c .ready3 .ensures))
+    rw (
+      eq-eqb (getD (a .image .now) attestationAt 0) 1 (c .before .before .before .before .before .before .if1 .left),
+      told
+          (c .before .before .before .before .before .well-formed .ensures) (not-false _ (c .before .before .before .before .if2 .left)),
+      le-leb nodeCount
+          (lowestFree nodeCount (treeIn (a .image .now)))
+          (omega (arith, c .before .before .before .free-index .ensures .0)),
+    ) (rw (c .before .declined2 .ensures) at (c .ready3 .ensures))
 
 pub stash-ready-spec : {M : Type 1} → statement M
 stash-ready-spec =

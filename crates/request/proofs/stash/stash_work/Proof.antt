@@ -55,7 +55,21 @@ unfolding registerIn workAt workWith zeros
 returns c =
     let g = c .before .before .before .before .before .before .before .before .before .before .before .before .before .before .before in
     let digest = part-within 48 (g .args .bytes .now) 8 (omega (arith, g .pre .0)) in
-    rw (c .new-work .ensures, c .before .before .before .before .pack .ensures, c .before .before .before .before .before .before .node-row .ensures, c .before .before .before .before .before .before .before .before .before .extend .ensures, c .before .before .before .before .before .before .before .before .extend2 .ensures, c .before .before .before .before .before .before .before .before .before .before .bytes-in .ensures, c .before .before .before .before .before .before .before .before .before .before .before .bytes-of .ensures, c .before .before .before .before .before .before .before .read32 .ensures, c .before .before .before .before .before .before .before .before .before .before .before .before .holder-index .ensures .0, ← g .pre .1, digest, c .before .sealed .ensures, c .before .before .before .four .ensures)
+    rw (
+      c .new-work .ensures,
+      c .before .before .before .before .pack .ensures,
+      c .before .before .before .before .before .before .node-row .ensures,
+      c .before .before .before .before .before .before .before .before .before .extend .ensures,
+      c .before .before .before .before .before .before .before .before .extend2 .ensures,
+      c .before .before .before .before .before .before .before .before .before .before .bytes-in .ensures,
+      c .before .before .before .before .before .before .before .before .before .before .before .bytes-of .ensures,
+      c .before .before .before .before .before .before .before .read32 .ensures,
+      c .before .before .before .before .before .before .before .before .before .before .before .before .holder-index .ensures .0,
+      ← g .pre .1,
+      digest,
+      c .before .sealed .ensures,
+      c .before .before .before .four .ensures,
+    )
 
 pub stash-work-spec : {M : Type 1} → statement M
 stash-work-spec =

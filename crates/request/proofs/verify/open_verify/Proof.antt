@@ -40,19 +40,29 @@ refused-requires-2 c κs = search needs
 returns : tie.Need-returns
 returns c =
     let a = c .before .before .before .before .before .before .before .args in
-    c .refused .ensures ∙ sym (by-screen verifySignature (a .image .now) (requestOf verifyCode (a .bytes .now) 0 [] (a .verdict)) (a .n) _ (ap (eqb (length (a .bytes .now))) (sym (c .before .before .before .before .before .before .before .pre))) (told (c .before .before .before .before .screen .ensures) (c .before .before .status .given .1)))
+    c .refused .ensures ∙ sym (by-screen verifySignature (a .image .now) (requestOf verifyCode (a .bytes .now) 0 [] (a .verdict)) (a .n) _
+    (ap (eqb (length (a .bytes .now))) (sym (c .before .before .before .before .before .before .before .pre)))
+    (told (c .before .before .before .before .screen .ensures) (c .before .before .status .given .1)))
 
 returns-2 : tie.Need-returns-2
 unfolding screenedOpened workAt
 returns-2 c =
     let a = c .before .before .before .before .before .before .before .before .before .args in
-    rw ((by-screen verifySignature (a .image .now) (requestOf verifyCode (a .bytes .now) 0 [] (a .verdict)) (a .n) _ (ap (eqb (length (a .bytes .now))) (sym (c .before .before .before .before .before .before .before .before .before .pre))) (told (c .before .before .before .before .before .before .screen .ensures) (c .before .before .before .before .enum-told .given .1))), c .before .before .before .if1 .taken) (rw (c .before .plain-work .ensures) at (c .ready .ensures))
+    let r = requestOf verifyCode (a .bytes .now) 0 [] (a .verdict) in
+    let long = ap (eqb (length (a .bytes .now))) (sym (c .before .before .before .before .before .before .before .before .before .pre)) in
+    let screened = told (c .before .before .before .before .before .before .screen .ensures) (c .before .before .before .before .enum-told .given .1) in
+    rw (by-screen verifySignature (a .image .now) r (a .n) _ long screened, c .before .before .before .if1 .taken) (rw (c .before .plain-work .ensures) at (c .ready .ensures))
 
 returns-3 : tie.Need-returns-3
 unfolding screenedOpened
 returns-3 c =
     let a = c .before .before .before .before .before .before .before .args in
-    rw ((by-screen verifySignature (a .image .now) (requestOf verifyCode (a .bytes .now) 0 [] (a .verdict)) (a .n) _ (ap (eqb (length (a .bytes .now))) (sym (c .before .before .before .before .before .before .before .pre))) (told (c .before .before .before .before .screen .ensures) (c .before .before .enum-told .given .1))), c .before .if1 .left) (c .refused2 .ensures)
+    rw (
+      (by-screen verifySignature (a .image .now) (requestOf verifyCode (a .bytes .now) 0 [] (a .verdict)) (a .n) _
+          (ap (eqb (length (a .bytes .now))) (sym (c .before .before .before .before .before .before .before .pre)))
+          (told (c .before .before .before .before .screen .ensures) (c .before .before .enum-told .given .1))),
+      c .before .if1 .left,
+    ) (c .refused2 .ensures)
 
 pub open-verify-spec : {M : Type 1} → statement M
 open-verify-spec =

@@ -14,7 +14,9 @@ open-request-requires : tie.Need-open-request-requires
 open-request-requires c κs = search needs
 
 returns : tie.Need-returns
-returns c = c .open-request .ensures .0 ∙ ap (openRequest (c .before .before .before .before .before .args .image .now)) (request-short (c .before .before .before .before .before .args .input .now) (omega arith))
+returns c =
+    c .open-request .ensures .0 ∙ ap (openRequest (c .before .before .before .before .before .args .image .now))
+    (request-short (c .before .before .before .before .before .args .input .now) (omega arith))
 
 read32-requires : tie.Need-read32-requires
 read32-requires c κs = search needs
@@ -32,7 +34,10 @@ open-request-requires-2 : tie.Need-open-request-requires-2
 open-request-requires-2 c κs = search needs
 
 returns-2 : tie.Need-returns-2
-returns-2 c = c .open-request2 .ensures .0 ∙ ap (openRequest (c .before .before .before .before .before .before .before .args .image .now)) (request-long (c .before .before .before .before .before .before .before .args .input .now) (c .before .before .read32 .result) (omega arith) (c .before .before .read32 .ensures))
+returns-2 c =
+    c .open-request2 .ensures .0 ∙ ap (openRequest (c .before .before .before .before .before .before .before .args .image .now)) (request-long
+    (c .before .before .before .before .before .before .before .args .input .now) (c .before .before .read32 .result) (omega arith)
+    (c .before .before .read32 .ensures))
 
 pub open-spec : {M : Type 1} → statement M
 open-spec =

@@ -42,7 +42,14 @@ put-word-requires-6 : tie.Need-put-word-requires-6
 put-word-requires-6 c κs = search needs
 
 returns : tie.Need-returns
-returns c = six-words (c .before .before .before .before .before .before .before .before .before .before .before .before .before .before .before .before .before .before .args .s) _ _ _ _ _ _ (c .before .before .before .before .before .before .before .before .before .before .before .before .before .before .before .before .put-word .ensures) (c .before .before .before .before .before .before .before .before .before .before .before .before .before .put-word2 .ensures) (c .before .before .before .before .before .before .before .before .before .before .put-word3 .ensures) (c .before .before .before .before .before .before .before .put-word4 .ensures) (c .before .before .before .before .put-word5 .ensures) (c .before .put-word6 .ensures)
+returns c =
+    six-words (c .before .before .before .before .before .before .before .before .before .before .before .before .before .before .before .before .before .before .args .s) _ _ _ _ _ _
+    (c .before .before .before .before .before .before .before .before .before .before .before .before .before .before .before .before .put-word .ensures)
+    (c .before .before .before .before .before .before .before .before .before .before .before .before .before .put-word2 .ensures)
+    (c .before .before .before .before .before .before .before .before .before .before .put-word3 .ensures)
+    (c .before .before .before .before .before .before .before .put-word4 .ensures)
+    (c .before .before .before .before .put-word5 .ensures)
+    (c .before .put-word6 .ensures)
 
 pub finish-spec : {M : Type 1} → statement M
 finish-spec =

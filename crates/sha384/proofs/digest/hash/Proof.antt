@@ -40,7 +40,9 @@ array-share-prefix-bytes : tie.Need-array-share-prefix-bytes
 array-share-prefix-bytes c = omega (arith, c .before .before .tail-of .ensures .0, c .before .before .tail-of .ensures .1)
 
 slice-aggregate-absorb : tie.Need-slice-aggregate-absorb
-slice-aggregate-absorb c = sym (length-take-le _ (c .before .before .before .tail-of .result .bytes) (omega (arith, c .before .before .before .tail-of .ensures .0, c .before .before .before .tail-of .ensures .1)))
+slice-aggregate-absorb c =
+    sym (length-take-le _ (c .before .before .before .tail-of .result .bytes)
+    (omega (arith, c .before .before .before .tail-of .ensures .0, c .before .before .before .tail-of .ensures .1)))
 
 absorb-requires-2 : tie.Need-absorb-requires-2
 absorb-requires-2 c κs = search needs
@@ -50,9 +52,12 @@ unfolding constants
 returns c =
     let m = c .before .before .before .before .before .before .before .before .before .before .args .message .now in
     let w = length m / 128 * 128 in
-    in-two-runs m (take (c .before .before .before .before .tail-of .result .len) (c .before .before .before .before .tail-of .result .bytes)) (c .before .before .before .before .before .before .absorb .result) (c .absorb2 .result)
-    (c .before .before .before .before .before .before .absorb .ensures ∙ ap (λ (s : State). hashed constants s m (length m / 128)) (c .before .before .before .before .before .before .before .initial .ensures))
-    (c .before .before .before .before .tail-of .ensures .2 ∙ ap (λ (l : List ℕ). l ++ padding (length m)) (take-all (length m - w) (drop w m) (omega (arith, length-drop w m))))
+    in-two-runs m (take (c .before .before .before .before .tail-of .result .len) (c .before .before .before .before .tail-of .result .bytes))
+    (c .before .before .before .before .before .before .absorb .result) (c .absorb2 .result)
+    (c .before .before .before .before .before .before .absorb .ensures
+    ∙ ap (λ (s : State). hashed constants s m (length m / 128)) (c .before .before .before .before .before .before .before .initial .ensures))
+    (c .before .before .before .before .tail-of .ensures .2
+    ∙ ap (λ (l : List ℕ). l ++ padding (length m)) (take-all (length m - w) (drop w m) (omega (arith, length-drop w m))))
     (c .absorb2 .ensures)
 
 pub hash-spec : {M : Type 1} → statement M

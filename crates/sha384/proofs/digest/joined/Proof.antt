@@ -36,7 +36,12 @@ long : (g : tie.Start) → (length (g .args .t1) ≡ 48) × (length (g .args .t2
 long g = search needs
 
 returns : tie.Need-returns
-returns c = two-halves 48 (c .before .before .before .before .before .before .before .before .args .t1) (c .before .before .before .before .before .before .before .before .args .t2) (replicate 96 0) _ _ (long (c .before .before .before .before .before .before .before .before) .0) (long (c .before .before .before .before .before .before .before .before) .1) refl (c .before .before .before .before .before .copy .ensures .1) (c .before .copy2 .ensures .1)
+returns c =
+    two-halves 48 (c .before .before .before .before .before .before .before .before .args .t1)
+    (c .before .before .before .before .before .before .before .before .args .t2) (replicate 96 0) _ _
+    (long (c .before .before .before .before .before .before .before .before) .0)
+    (long (c .before .before .before .before .before .before .before .before) .1) refl (c .before .before .before .before .before .copy .ensures .1)
+    (c .before .copy2 .ensures .1)
 
 pub joined-spec : {M : Type 1} → statement M
 joined-spec =

@@ -48,7 +48,13 @@ put-word-requires c κs = omega (arith, slice-aggregate-put-word c)
 
 -- src/padding.rt:31:1
 returns : tie.Need-returns
-returns c = (omega arith, search needs, ended (c .before .before .before .before .before .before .before .args .rest .now) _ _ (c .before .before .before .before .before .before .before .args .total) (c .before .before .before .before .before .before .before .pre .0) (c .before .before .before .before .before .before .before .pre .1) (c .before .before .before .before .copy .ensures .1) (c .before .put-word .ensures))
+returns c = (
+  omega arith,
+  search needs,
+  ended (c .before .before .before .before .before .before .before .args .rest .now) _ _
+      (c .before .before .before .before .before .before .before .args .total) (c .before .before .before .before .before .before .before .pre .0)
+      (c .before .before .before .before .before .before .before .pre .1) (c .before .before .before .before .copy .ensures .1) (c .before .put-word .ensures),
+)
 
 pub tail-of-spec : {M : Type 1} → statement M
 tail-of-spec =

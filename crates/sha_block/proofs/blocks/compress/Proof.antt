@@ -28,7 +28,8 @@ returns c =
     let W = at (schedule 64 (g .args .m)) in
     c .sum .ensures
     ∙ ap (nextHash (g .args .h))
-    (c .before .ring-rounds .ensures ∙ ap (turns (λ j. K (16 + j)) (λ j. W (16 + j)) 64) (c .before .before .first-rounds .ensures) ∙ sym (turns-add K W 16 64 (g .args .h)))
+    (c .before .ring-rounds .ensures ∙ ap (turns (λ j. K (16 + j)) (λ j. W (16 + j)) 64) (c .before .before .first-rounds .ensures)
+    ∙ sym (turns-add K W 16 64 (g .args .h)))
 
 pub compress-spec : {M : Type 1} → statement M
 compress-spec =

@@ -50,8 +50,11 @@ loop-less c = search needs
 loop-again : tie.Need-loop-again Inv-loop μ-loop
 loop-again c =
     let g = c .before .before .before .before in
-    let l = c .before .before .before .loop in
-    (omega arith, turns-more (at (now (g .args .k))) (at (schedule 64 (g .args .t3))) (g .args .h) (l .t) _ _ (l .inv .1) refl (first-words (g .args .t3) (l .t) (long g) (c .before .before .loop-test .taken)) (c .round .ensures))
+    let l = c .before .before .before .loop in (
+      omega arith,
+      turns-more (at (now (g .args .k))) (at (schedule 64 (g .args .t3))) (g .args .h) (l .t) _ _ (l .inv .1) refl
+          (first-words (g .args .t3) (l .t) (long g) (c .before .before .loop-test .taken)) (c .round .ensures),
+    )
 
 returns : tie.Need-returns Inv-loop μ-loop
 returns c =

@@ -14,7 +14,8 @@ use Rattle.sha_block.proofs.blocks.ring_rounds.Statement.{statement}
 use Rattle.sha_block.proofs.blocks.ring_rounds.Tie as tie
 
 abbrev Inv-loop : tie.InvT-loop
-Inv-loop k w₀ s₀ t₀ w s t = (16 ≤ t) × (t ≤ 80) × (length w ≡ 16) × Ring w₀ t w × (s ≡ turns (λ j. at k (16 + j)) (λ j. at (schedule 64 w₀) (16 + j)) (t - 16) s₀)
+Inv-loop k w₀ s₀ t₀ w s t =
+    (16 ≤ t) × (t ≤ 80) × (length w ≡ 16) × Ring w₀ t w × (s ≡ turns (λ j. at k (16 + j)) (λ j. at (schedule 64 w₀) (16 + j)) (t - 16) s₀)
 
 abbrev μ-loop : tie.MeasureT-loop
 μ-loop k w₀ s₀ t₀ w s t = 80 - t
@@ -96,7 +97,8 @@ loop-again c =
       omega arith,
       simp length-set (l .inv .2),
       ring-more (g .args .m) (l .w) (l .t) _ (l .inv .2) (l .inv .3) e,
-      rw j at (turns-more (λ j. at (now (g .args .k)) (16 + j)) (λ j. at W (16 + j)) (g .args .h) (l .t - 16) _ _ (l .inv .4) (ap (at (now (g .args .k))) (sym i)) (e ∙ ap (at W) (sym i)) (c .round .ensures)),
+      rw j at (turns-more (λ j. at (now (g .args .k)) (16 + j)) (λ j. at W (16 + j)) (g .args .h) (l .t - 16) _ _ (l .inv .4)
+          (ap (at (now (g .args .k))) (sym i)) (e ∙ ap (at W) (sym i)) (c .round .ensures)),
     )
 
 returns : tie.Need-returns Inv-loop μ-loop

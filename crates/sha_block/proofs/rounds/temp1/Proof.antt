@@ -29,8 +29,10 @@ wrapping-add-u64-requires-4 c κs = search needs
 returns : tie.Need-returns
 unfolding T1
 returns c = let a = c .before .before .before .before .before .before .args in
-    sum5 _ _ _ _ _ _ _ _ _ (c .before .before .before .before .wrapping-add-u64 .ensures) (c .before .before .wrapping-add-u642 .ensures) (c .before .wrapping-add-u643 .ensures) (c .wrapping-add-u644 .ensures)
-    ∙ ap₂ (λ (x y : ℕ). (a .h + x + y + a .k + a .w) % 2 ^ 64) (c .before .before .before .before .before .big1 .ensures) (c .before .before .before .choose .ensures)
+    sum5 _ _ _ _ _ _ _ _ _ (c .before .before .before .before .wrapping-add-u64 .ensures) (c .before .before .wrapping-add-u642 .ensures)
+    (c .before .wrapping-add-u643 .ensures) (c .wrapping-add-u644 .ensures)
+    ∙ ap₂ (λ (x y : ℕ). (a .h + x + y + a .k + a .w) % 2 ^ 64) (c .before .before .before .before .before .big1 .ensures)
+    (c .before .before .before .choose .ensures)
 
 pub temp1-spec : {M : Type 1} → statement M
 temp1-spec =

@@ -13,7 +13,8 @@ use Rattle.tree.proofs.index.lowest.Statement.{statement}
 use Rattle.tree.proofs.index.lowest.Tie as tie
 
 abbrev Inv-loop : tie.InvT-loop
-Inv-loop image sort i₀ i = (i ≤ nodeCount) × (firstFrom (λ k. isOf sort (treeIn image k)) nodeCount 0 ≡ firstFrom (λ k. isOf sort (treeIn image k)) (nodeCount - i) i)
+Inv-loop image sort i₀ i =
+    (i ≤ nodeCount) × (firstFrom (λ k. isOf sort (treeIn image k)) nodeCount 0 ≡ firstFrom (λ k. isOf sort (treeIn image k)) (nodeCount - i) i)
 
 abbrev μ-loop : tie.MeasureT-loop
 μ-loop image sort i₀ i = nodeCount - i
@@ -25,7 +26,11 @@ is-of-requires : tie.Need-is-of-requires Inv-loop μ-loop
 is-of-requires c κs = search needs
 
 returns : tie.Need-returns Inv-loop μ-loop
-returns c = (sym (c .before .before .before .loop .inv .1 ∙ first-here _ nodeCount (c .before .before .before .loop .i) (omega arith) (told (c .before .is-of .ensures) (c .if1 .taken))), omega arith)
+returns c = (
+  sym (c .before .before .before .loop .inv .1
+      ∙ first-here _ nodeCount (c .before .before .before .loop .i) (omega arith) (told (c .before .is-of .ensures) (c .if1 .taken))),
+  omega arith,
+)
 
 add-i : tie.Need-add-i Inv-loop μ-loop
 add-i c = search needs
@@ -34,7 +39,11 @@ loop-less : tie.Need-loop-less Inv-loop μ-loop
 loop-less c = search needs
 
 loop-again : tie.Need-loop-again Inv-loop μ-loop
-loop-again c = (omega arith, c .before .before .before .loop .inv .1 ∙ first-on _ nodeCount (c .before .before .before .loop .i) (omega arith) (told (c .before .is-of .ensures) (c .if1 .left)))
+loop-again c = (
+  omega arith,
+  c .before .before .before .loop .inv .1
+      ∙ first-on _ nodeCount (c .before .before .before .loop .i) (omega arith) (told (c .before .is-of .ensures) (c .if1 .left)),
+)
 
 returns-2 : tie.Need-returns-2 Inv-loop μ-loop
 returns-2 c =

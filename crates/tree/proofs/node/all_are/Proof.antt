@@ -29,7 +29,9 @@ node-word-requires : tie.Need-node-word-requires Inv-loop μ-loop
 node-word-requires c κs = search needs
 
 returns : tie.Need-returns Inv-loop μ-loop
-returns c = sym (all-fails _ (c .before .before .before .loop .j) (c .before .before .before .before .before .args .n) (ne-eqb _ _ (λ e. c .if1 .taken (c .before .node-word .ensures ∙ e))) (omega arith))
+returns c =
+    sym (all-fails _ (c .before .before .before .loop .j) (c .before .before .before .before .before .args .n)
+    (ne-eqb _ _ (λ e. c .if1 .taken (c .before .node-word .ensures ∙ e))) (omega arith))
 
 add-j : tie.Need-add-j Inv-loop μ-loop
 add-j c = search needs
@@ -38,7 +40,11 @@ loop-less : tie.Need-loop-less Inv-loop μ-loop
 loop-less c = search needs
 
 loop-again : tie.Need-loop-again Inv-loop μ-loop
-loop-again c = (omega arith, all-more _ (c .before .before .before .loop .j) (c .before .before .before .loop .inv .1) (eq-eqb _ _ (told (c .before .node-word .ensures) (c .if1 .left))))
+loop-again c = (
+  omega arith,
+  all-more _ (c .before .before .before .loop .j) (c .before .before .before .loop .inv .1)
+      (eq-eqb _ _ (told (c .before .node-word .ensures) (c .if1 .left))),
+)
 
 returns-2 : tie.Need-returns-2 Inv-loop μ-loop
 returns-2 c =

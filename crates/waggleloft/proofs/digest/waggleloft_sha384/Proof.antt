@@ -55,7 +55,8 @@ returns-3 c =
     rw (le-ltb longest (length m) (omega arith), le-ltb (length b) 48 (omega arith)) (
       refl,
       c .before .before .copy .ensures .1
-          ∙ ap₂ (λ (l : List ℕ) (k : ℕ). l ++ drop k b) (take-all (length (c .before .before .before .before .before .before .digest .result .bytes)) (c .before .before .before .before .before .before .digest .result .bytes) (omega arith) ∙ same) n,
+          ∙ ap₂ (λ (l : List ℕ) (k : ℕ). l ++ drop k b) (take-all (length (c .before .before .before .before .before .before .digest .result .bytes))
+          (c .before .before .before .before .before .before .digest .result .bytes) (omega arith) ∙ same) n,
     )
 
 pub waggleloft-sha384-spec : {M : Type 1} → statement M

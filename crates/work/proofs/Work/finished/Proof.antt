@@ -15,7 +15,12 @@ number-requires c κs = search needs
 
 returns : tie.Need-returns
 unfolding finished
-returns c = search (cases, told (c .before .before .before .shaped .ensures ∙ shaped-standing (c .before .before .before .before .args .self)) (c .before .before .if1 .taken), c .before .number .ensures)
+returns c =
+    search (
+      cases,
+      told (c .before .before .before .shaped .ensures ∙ shaped-standing (c .before .before .before .before .args .self)) (c .before .before .if1 .taken),
+      c .before .number .ensures,
+    )
 
 returns-2 : tie.Need-returns-2
 unfolding finished

@@ -17,7 +17,8 @@ use Rattle.work.proofs.lent.store.Tie as tie
 -- the work that the parts make
 abbrev work : tie.Start → Work
 work s =
-    storing (s .args .kind) (s .args .position) (s .args .answer-len) (s .args .register .now) (s .args .journey .now) (s .args .node .now) (s .args .secret .now)
+    storing (s .args .kind) (s .args .position) (s .args .answer-len) (s .args .register .now) (s .args .journey .now) (s .args .node .now)
+    (s .args .secret .now)
 
 store-number-requires : tie.Need-store-number-requires
 store-number-requires c κs = search needs
