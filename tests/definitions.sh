@@ -1,0 +1,76 @@
+#!/usr/bin/env bash
+# Tries wrong definitions that stand in another crate than the contracts that cite them, which a
+# must-fail edit does not reach. Each file of tests/definitions/ says
+#
+#   refused: CRATE        the crate of the contract
+#   file: PATH            the definition's file, from the root
+#   old: TEXT, new: TEXT  what is replaced in it, once
+#
+# The definition's crate must still be proved and CRATE be refused, at a proof of its own. The last line
+# is 'N passed, M failed'; exit status 1 if one failed. Needs what `rt check` leaves in target/.
+set -euo pipefail
+cd "$(dirname "$(readlink -f "${BASH_SOURCE[0]}")")/.."
+. tests/shell.sh
+. tests/expect.sh
+
+usage="usage: tests/definitions.sh [--help]
+  Tries each wrong definition of tests/definitions/."
+case ${1-} in
+'') ;;
+-h | --help)
+    echo "$usage"
+    exit 0
+    ;;
+*) die 2 "there is no '$1' (tests/definitions.sh --help)" ;;
+esac
+[ $# -le 1 ] || die 2 "too many words (tests/definitions.sh --help)"
+for folder in target/rlib target/stamp; do
+    [ -d "$folder" ] || die 1 "$folder is missing: 'rt check' makes it"
+done
+make_scratch
+
+# The value of a line 'KEY: ..' of an edit.
+value() { sed -n "s/^$1: //p" "$2"; } # KEY EDIT
+
+# Makes a copy of the tree in which the definition is wrong.
+copy() { # EDIT TREE
+    mkdir -p "$2/target"
+    cp -R crates crates.txt "$2/"
+    cp -R target/rlib target/stamp "$2/target/"
+    OLD=$(value old "$1") NEW=$(value new "$1") awk '
+        { text = text $0 "\n" }
+        END {
+            at = index(text, ENVIRON["OLD"]); rest = substr(text, at + length(ENVIRON["OLD"]))
+            if (!at || index(rest, ENVIRON["OLD"])) exit 3
+            printf "%s%s%s", substr(text, 1, at - 1), ENVIRON["NEW"], rest
+        }' "$(value file "$1")" >"$2/edited" || { echo "the old text does not stand once in its file"; return 1; }
+    mv "$2/edited" "$2/$(value file "$1")"
+}
+
+# Says what becomes of a wrong definition.
+try() { # EDIT
+    local tree log crate home status=0
+    crate=$(value refused "$1") home=$(value file "$1" | cut -d/ -f2)
+    tree=$scratch/$(basename "$1" .edit) log=$scratch/$(basename "$1" .edit).log
+    copy "$1" "$tree" || return 0
+    (cd "$tree" && RT_JOBS=1 rt check "$crate") >"$log" 2>&1 || status=$?
+    rm -rf "$tree"
+    if [ "$status" -eq 1 ] && grep -q "^rt: $home proved" "$log" && grep -q "crates/$crate/proofs/.*: error" "$log"; then
+        echo refused
+    else
+        echo "status $status: $(tail -n 1 "$log")"
+    fi
+}
+
+# Two at a time: each takes one core.
+said=()
+for edit in tests/definitions/*.edit; do
+    while [ "$(jobs -rp | wc -l)" -ge 2 ]; do wait -n; done
+    try "$edit" >"$scratch/$(basename "$edit").said" &
+    said+=("$(basename "$edit")")
+done
+wait
+for name in "${said[@]}"; do
+    expect "${name%.edit} is refused by $(value refused "tests/definitions/$name")" refused "$(cat "$scratch/$name.said")"
+done
+conclude
