@@ -17,7 +17,7 @@ use Rattle.opening.specs.declared.Status.the-variants as status
 use Rattle.opening.specs.declared.BootStatus.{BootStatus}
 use Rattle.opening.specs.declared.BootStatus.the-variants as bootStatus
 
--- "opening a request, opening an update boot, one store of the work in hand", its answer into a buffer, and a power cut; "no cold boot follows"
+-- what a list of demand 3 has: an opening of a request or an update boot, a store, an answer into a buffer, a power cut; "no cold boot follows"
 pub data Call : Type 0 where
   request : Request → Call
   updateBoot : BootInputs → (verdict : Bool) → Call
@@ -30,7 +30,7 @@ pub data Act : Type 0 where
   openCold : BootInputs → Act
   call : Call → Act
 
--- "cold boot, update, disabling, stash at a node, or nothing to store"
+-- the five kinds of work, without their indices (document 01, "Work, one word at a time")
 pub data WorkKind : Type 0 where
   nothingToStore disabling stashing updating coldBooting : WorkKind
 
@@ -99,7 +99,7 @@ abbrev pub answerTaken : Option Hand → List ℕ → Result
 answerTaken none buffer = noWork
 answerTaken (some h) buffer = let r = answerResult (h .work) buffer in answered (r .number) (r .written) (answerBuffer (h .work) buffer)
 
--- one call. "At a cut every store made stands whole ..; every other word is old; the work in hand goes."
+-- one call. A power cut leaves the image as it is, each store being whole, and "the work in hand goes"
 unfoldable pub step : Machine → Call → Step Machine
 step m (request r) = let o = openRequest (m .image) r in afterRequest m (o .work) (o .status)
 step m (updateBoot x verdict) = let o = openUpdateBoot (m .image) x verdict in afterBoot m (o .work) (o .status)

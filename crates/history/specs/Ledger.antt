@@ -41,7 +41,7 @@ abbrev pub changed : (Node → Node) → Option Node → Option Node
 changed f none = none
 changed f (some n) = some (f n)
 
--- "root's current is the new PCR3, and root's cumulative is extended by that"
+-- an update's root: current becomes the journey, and the cumulative is extended by it
 abbrev pub renewed : List ℕ → Node → Node
 renewed journey n = withCumulative (extended (n .cumulative) journey) (withCurrent journey n)
 
@@ -51,7 +51,7 @@ nextChain x noStores = x
 nextChain x keptBoot = x
 nextChain x disableCommand = x
 nextChain x disablingBoot = x
--- "PCR31 is extended by the digest. The lowest free node becomes used .. The old holder is retired."
+-- stash: PCR31, a new node at the lowest free index, and "the old holder is retired"
 nextChain x (stash m) =
     let holder = nodeWith nodeCount (treeAt x) defaultWords in
     record {
@@ -60,7 +60,7 @@ nextChain x (stash m) =
           set (set (x .nodes) (lowestFree nodeCount (treeAt x)) (some (childNode holder m))) holder
           (changed (withHandle retiredHandle) (getD (x .nodes) holder none));
     }
--- "PCR2 is zero extended by the digest, PCR3 is extended by it", and the root
+-- update: PCR2 begins anew, PCR3 goes on, and the root is renewed
 nextChain x (update b) =
     let journey = extended (getD (x .registers) journeyRegister []) (b .digest) in
     let root = rootIn nodeCount (treeAt x) in
@@ -68,7 +68,7 @@ nextChain x (update b) =
       registers = set (set (x .registers) currentRegister (measured (b .digest))) journeyRegister journey;
       nodes = set (x .nodes) root (changed (renewed journey) (getD (x .nodes) root none));
     }
--- "PCR2 and PCR3 are 48 zero bytes extended by the digest; other registers zero .. Node 0 is the root .. Other nodes zero."
+-- cold boot: PCR2 and PCR3 measured from zero, every other register zero; the root is node 0 and the only node
 nextChain x (coldBoot b) =
     let journey = measured (b .digest) in
     record {
@@ -107,8 +107,8 @@ pub record Job : Type 0 where
   pub stores : ℕ
   pub answer : List ℕ
 
--- "It holds the history (counted work and its inputs, the cold boot first), the work in hand, its stores made, whether one was ever torn, and whether the
--- book is unfinished (at first, no)."
+-- document 01's book: the counted works with their inputs, the cold boot first; the work in hand and how many of its stores are made; whether one was
+-- ever torn; whether one is begun and not ended
 pub record Ledger : Type 0 where
   pub history : List Task
   pub hand : Option Job
@@ -138,11 +138,11 @@ isOff history torn = torn || any disables history
 abbrev pub chainOf : Ledger → Chain
 chainOf b = stateOf (b .history) .chain
 
--- "the request rules decide, with the book for the image: unfinished for mark not 1, off for attestation off"
+-- what the rules see of the ledger, in the place of an image
 unfoldable pub viewOf : List Task → Bool → Bool → View
 viewOf history torn unfinished = record { done = not unfinished; on = not (isOff history torn); nodes = treeAt (stateOf history .chain) }
 
--- "A work that goes, by a cut or another opening, after its first store and before its last is torn and counts as cut."
+-- document 01's "torn": a work that goes when some of its stores are made and some are left
 abbrev pub tears : Option Job → ℕ → Bool
 tears none made = false
 tears (some j) made = ltb 0 made && ltb made (j .stores)
@@ -155,7 +155,7 @@ letGo b = record { history = b .history; hand = none; made = 0; torn = b .torn |
 abbrev pub jobAt : Chain → Task → List ℕ → Job
 jobAt x t a = record { task = t; stores = numberOf (factsOf t .kind (treeAt x)); answer = a }
 
--- "An accepted opening's work becomes the one in hand; the one before is never taken up again."
+-- a new work "becomes the one in hand"
 abbrev pub takeUp : Ledger → Job → Ledger
 takeUp b j = record { history = b .history; hand = some j; made = 0; torn = b .torn; unfinished = b .unfinished }
 
@@ -174,11 +174,11 @@ ledgerBoot b (accepted t a) =
       result = booted (outcomeNumber (outcomeOf (factsOf t .boot))) (kindName (factsOf t .kind (treeAt (chainOf b)))) (j .stores);
     }
 
--- "Update boot: refused with 6, or the work in hand goes; then disabling if off, else kept or update by ROM's verdict."
+-- an update boot: the work in hand goes first, so a torn one makes it a disabling; else ROM's verdict decides
 abbrev pub updateRuling : Ledger → BootInputs → Bool → Ruling
 updateRuling b x verdict = let after = letGo b in bootRuling (bootRules x) (updateTask (not (isOff (after .history) (after .torn))) verdict x)
 
--- "Store: none left, refused; else one more made. The first makes the book unfinished; the last ends that and the work joins the history."
+-- a store: refused if none is left; the ledger is unfinished from the first to the last, which adds the work to the history
 abbrev pub ledgerStore : Ledger → Option Job → Step Ledger
 ledgerStore b none = record { state = b; result = noWork }
 ledgerStore b (some j) =

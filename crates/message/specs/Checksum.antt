@@ -8,6 +8,6 @@ abbrev pub sumOf : List ℕ → ℕ
 sumOf [] = 0
 sumOf (b ∷ bs) = b + sumOf bs
 
--- "zero minus the sum of the four code bytes and of every byte after the checksum field, modulo 2^32"
+-- "zero minus the sum", modulo 2^32, over the code's bytes and those after the checksum field
 unfoldable pub checksumOf : ℕ → List ℕ → ℕ
 checksumOf code bytes = (2 ^ 32 - (sumOf (bytes4 code) + sumOf bytes) % 2 ^ 32) % 2 ^ 32

@@ -85,7 +85,7 @@ rootMatches image =
     let root = rootIn nodeCount (treeIn image) in
     allBelow registerWords (λ k. eqb (word image root (currentAt + k)) (getD image (registerAt journeyRegister + k) 0))
 
--- none of "mark not 1, attestation not 1, not well formed, or root's current unlike PCR3"
+-- the image that an update boot need not disable: done, on, well formed, and the root measures the journey
 unfoldable pub intact : List ℕ → Bool
 intact image =
     eqb (getD image markAt 0) 1 && (eqb (getD image attestationAt 0) 1 && (wellFormed nodeCount (treeIn image) && rootMatches image))

@@ -13,7 +13,7 @@ use Rattle.message.specs.Checksum.{checksumOf}
 use Rattle.tree.specs.Tree.{wellFormed, lowestFree}
 use Rattle.opening.specs.Tasks.{Request, BootInputs, Measurement, Task, noStores, keptBoot, disableCommand, disablingBoot, stash, update, Ruling, refused, accepted, View}
 
--- ---- "The first that applies wins, top down within each entry."
+-- ---- lists of rules: "the first that applies wins"
 
 -- a refusal with its number, or a decline with its dpe result
 pub data Verdict : Type 0 where
@@ -44,7 +44,7 @@ decide (r ∷ rs) declined otherwise = cond (r .applies) (judged declined (r .ve
 unfoldable pub badChecksum : ℕ → List ℕ → Bool
 badChecksum code bytes = not (eqb (le32 bytes 0) (checksumOf code (drop 4 bytes)))
 
--- "Handoff table (003): exactly 2,048 bytes; marker 0x54484643 at 0, major version 1 at 4 (two bytes), any minor version."
+-- the handoff table (003): its size, its marker, and major version 1; the minor version is free
 unfoldable pub handoffOk : List ℕ → Bool
 handoffOk h = eqb (length h) 2048 && (eqb (le32 h 0) 0x54484643 && eqb (le16 h 4) 1)
 
@@ -76,8 +76,7 @@ identityCode = 0x49444549
 abbrev pub verifyCode : ℕ
 verifyCode = 0x53494756
 
--- "Stash declines .. dpe result is 2 if attestation is off, else gives refusal 11 if the image is not well formed, else declines with dpe result 1 if all
--- 24 nodes are used. An accepted stash answers dpe result 0."
+-- stash: declined while off, refused where the nodes are not well formed, declined where no node is free, in that order
 abbrev pub stashMeasurement : Command
 stashMeasurement =
     record {
@@ -123,7 +122,7 @@ commandOf code =
 
 -- ---- the entries' orders
 
--- "The answer's checksum is made the same way, with the same code. The next answer word is FIPS status, always 0."
+-- every answer: its checksum "with the same code", the FIPS status 0, then the command's own bytes
 unfoldable pub answerOf : ℕ → List ℕ → List ℕ
 answerOf code rest = bytes4 (checksumOf code (bytes4 0 ++ rest)) ++ (bytes4 0 ++ rest)
 
@@ -154,7 +153,7 @@ commandRuling c v r = decide (commandRules c v r) (declined r) (served c r)
 abbrev pub requestRuling : List Rule → Request → Ruling
 requestRuling rules r = decide rules (declined r) (served (commandOf (r .code)) r)
 
--- "boot: .. 6 digest or secret not 48 bytes, or secret all zero"
+-- a boot's inputs: 48 bytes each, and the secret not all zero
 unfoldable pub inputsOk : BootInputs → Bool
 inputsOk x = eqb (length (x .digest)) 48 && (eqb (length (x .secret)) 48 && not (allBelow 48 (λ k. eqb (getD (x .secret) k 0) 0)))
 

@@ -4,7 +4,7 @@ use mathlib.Core.Bool.{Bool}
 use mathlib.Core.List.{List}
 use Rattle.tree.specs.Tree.{Tree}
 
--- "The request is a command code, a byte slice, the caller's number (PAUSER, 32 bits), the handoff table and the ECDSA verdict."
+-- a request: command code, bytes, the caller's number (PAUSER), the handoff table, ROM's ECDSA verdict
 pub record Request : Type 0 where
   pub code : ℕ
   pub bytes : List ℕ

@@ -11,11 +11,10 @@ use Rattle.opening.specs.Tasks.{Measurement}
 abbrev pub measured : List ℕ → List ℕ
 measured d = extended (zeros 48) d
 
--- "parent is the holder of the default handle, tag 0, default handle, flags 0, current is the digest, cumulative is 48 zero bytes extended by it,
--- type from the request, locality the caller"
+-- a stash's node: below the old holder, no flag, current the digest, type from the request, locality the caller
 abbrev pub childNode : ℕ → Measurement → Node
 childNode holder x = newNode holder 0 (x .digest) (measured (x .digest)) (x .type) (x .caller)
 
--- "Node 0 is the root: tag 0, default handle, internal, current is PCR3, cumulative is zero extended by PCR3, locality 0", of type RTJM
+-- a cold boot's root: internal, current the journey, cumulative measured from zero by it, type RTJM, locality 0
 abbrev pub rootNode : List ℕ → Node
 rootNode journey = newNode rootMark internalFlag journey (measured journey) rootType 0

@@ -25,7 +25,7 @@ use Rattle.opening.specs.declared.Outcome.the-variants.{Cold, Kept, Upda
 unfoldable pub registerIn : List ℕ → ℕ → List ℕ
 registerIn image i = bytes48 (part registerWords image (registerAt i))
 
--- "PCR31 is extended by the digest. The lowest free node becomes used: parent is the holder of the default handle"
+-- stash: PCR31 extended by the digest, and the new node below the holder of the default handle
 abbrev pub stashValues : Measurement → List ℕ → Values
 stashValues x image =
     record {
@@ -35,8 +35,7 @@ stashValues x image =
       secret = zeros registerWords;
     }
 
--- "PCR2 is zero extended by the digest, PCR3 is extended by it, the secret is the new one, root's current is the new PCR3, and root's cumulative is
--- extended by that"
+-- update: PCR2 measured from zero, PCR3 extended, the new secret, and the root's two measurements from the new PCR3
 abbrev pub updateValues : BootInputs → List ℕ → Values
 updateValues x image =
     let journey = extended (registerIn image journeyRegister) (x .digest) in

@@ -1,7 +1,5 @@
--- The small program of document 01, from the bytes on standard input to those it writes. "A small program reads a code (4 bytes, little endian) and a
--- request from standard input, runs it on an image cold booted with 48 bytes 0x11 and secret 48 bytes 0x22, caller 0, verdict no, no handoff table, and
--- writes the result (4 bytes, little endian) and the answer; a refused request writes the result only. Fewer than 4 input bytes count as code 0; of a
--- longer input only the first 65,000 bytes are used." Assumes nothing.
+-- The small program of document 01, from the bytes on standard input to those it writes: one request, its code in front, on a unit that was just cold
+-- booted (REFERENCE.md, section 13). Assumes nothing.
 use Prim.Native.Nat.{ℕ, _+_, _-_}
 use mathlib.Core.Bool.{false, cond}
 use mathlib.Core.List.{List, [], _++_}
@@ -17,7 +15,7 @@ use Rattle.opening.specs.declared.Status.the-variants as status
 use Rattle.opening.specs.declared.Opened.{Opened}
 use Rattle.respond.specs.declared.Response.{Response}
 
--- "an image cold booted with 48 bytes 0x11 and secret 48 bytes 0x22": all stores of that boot, on an image of zero words
+-- the unit: zero words, cold booted with digest bytes 0x11 and secret bytes 0x22, all stores made
 unfoldable pub coldImage : List ℕ
 coldImage = coldBooted (zeros imageWords) (bootOf (replicate 48 0x11) (replicate 48 0x22))
 
@@ -26,12 +24,12 @@ coldImage = coldBooted (zeros imageWords) (bootOf (replicate 48 0x11) (replicate
 unfoldable pub requestIn : List ℕ → Request
 requestIn input = requestOf (cond (ltb (length input) 4) 0 (le32 input 0)) (drop 4 input) 0 [] false
 
--- "and the answer; a refused request writes the result only"
+-- what follows the result: the answer, or nothing where the request is refused
 abbrev pub answerIn : Work → Status → List ℕ
 answerIn w status.Ready = take (w .«answer_len») (w .answer)
 answerIn w (status.Refused n) = []
 
--- "writes the result (4 bytes, little endian) and the answer"
+-- all that is written
 unfoldable pub written : Opened → List ℕ
 written o = bytes4 (statusNumber (o .status)) ++ answerIn (o .work) (o .status)
 

@@ -11,7 +11,7 @@ use Rattle.sha384.specs.declared.digest.DigestResult.{DigestResult}
 abbrev pub longest : ℕ
 longest = 65535
 
--- "The digest entry returns 48 bytes, or 48 zero bytes with number 10"; success is 0
+-- the digest entry: 0 and the digest, or 10 and "48 zero bytes"
 unfoldable pub digestOf : List ℕ → DigestResult
 digestOf m =
     cond (leb (length m) longest)

@@ -8,7 +8,7 @@ use Rattle.layout.specs.Sizes.{nodeWords, handleWords}
 use Rattle.layout.specs.Words.{words48, wordsAt, zeros, flat}
 use Rattle.tree.specs.Tree.{Place, freePlace, Tree}
 
--- "Handle of 20 zero bytes: the default context. Handle of 20 bytes 0xFF: retired."
+-- the two handles: zero bytes, "the default context"; bytes 0xFF, retired
 abbrev pub defaultHandle : List ℕ
 defaultHandle = replicate (4 * handleWords) 0
 

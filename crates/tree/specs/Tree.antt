@@ -29,7 +29,7 @@ Tree = ℕ → Place
 
 -- ---- handles
 
--- "Handle of 20 zero bytes: the default context. Handle of 20 bytes 0xFF: retired."
+-- the two handles: zero bytes, "the default context"; bytes 0xFF, retired
 abbrev pub defaultWords : List ℕ
 defaultWords = replicate handleWords 0
 
@@ -57,11 +57,11 @@ rootOk p = eqb (p .flags) internalFlag && eqb (p .type) rootType
 unfoldable pub childOk : ℕ → Tree → ℕ → Bool
 childOk n t i = eqb (t i .flags) 0 && (ltb (t i .parent) n && t (t i .parent) .used)
 
--- "exactly one used node has the default handle and every other is retired": here, that a used node has one of the two
+-- of the handles of used nodes: each is one of the two
 unfoldable pub handleOk : Place → Bool
 handleOk p = sameHandle (p .handle) defaultWords || sameHandle (p .handle) retiredWords
 
--- a place by itself: "the low half of word 0 is 0 or 1; a free node is all zero", so what is not used is blank
+-- a place by itself: "a free node is all zero", so what is not used is blank
 unfoldable pub placeOk : ℕ → Tree → ℕ → Bool
 placeOk n t i = cond (t i .used) (handleOk (t i) && cond (isRoot (t i)) (rootOk (t i)) (childOk n t i)) (t i .blank)
 

@@ -7,10 +7,10 @@ use lib.ListN.{length, drop}
 use Rattle.sha384.specs.Sha384.{sha384}
 use Rattle.sha384.specs.Entries.{longest}
 
--- "digest: 10 longer than 65,535; 8 buffer shorter than 48 (C form)", the first that applies, for a message m and a buffer of n bytes; success is 0
+-- the C form's number for a message m and a buffer of n bytes: 10 too long, then 8 too short a buffer, else 0
 unfoldable pub digestNumber : List ℕ → ℕ → ℕ
 digestNumber m n = cond (ltb longest (length m)) 10 (cond (ltb n 48) 8 0)
 
--- "its C form writes the buffer's first 48 bytes, or nothing when refused": what the buffer holds afterwards
+-- what the buffer holds afterwards: the digest in front, "or nothing when refused"
 unfoldable pub digestBuffer : List ℕ → List ℕ → List ℕ
 digestBuffer m buffer = cond (eqb (digestNumber m (length buffer)) 0) (sha384 m ++ drop 48 buffer) buffer

@@ -14,22 +14,22 @@ use Rattle.work.specs.declared.Work.{Work}
 use Rattle.work.specs.declared.Stored.{Stored}
 use Rattle.work.specs.declared.Answered.{Answered}
 
--- "A work with a position past its number, an index beyond the nodes or an answer longer than the longest in the table" is not well shaped
+-- document 01's "well shaped": indices below the number of nodes, an answer not longer than the longest, a position within the number of stores
 unfoldable pub wellShaped : Work → Bool
 wellShaped w = indexOk (w .kind) && (leb (w .«answer_len») answerMax && leb (w .position) (numberOf (w .kind)))
 
--- "The reported stores left are the number below minus those made"; a work that is not well shaped "reports 0 left"
+-- the number of stores minus those made; a work that is not well shaped "reports 0 left"
 unfoldable pub leftOf : Work → ℕ
 leftOf w = cond (wellShaped w) (numberOf (w .kind) - w .position) 0
 
 -- a work of its parts
-abbrev pub workOf : Kind → ℕ → (register journey node secret answer : List ℕ) → ℕ → Work
-workOf k position register journey node secret answer n =
+abbrev pub workFrom : Kind → ℕ → (register journey node secret answer : List ℕ) → ℕ → Work
+workFrom k position register journey node secret answer n =
     record { kind = k; position = position; register = register; journey = journey; node = node; secret = secret; answer = answer; «answer_len» = n }
 
 -- "hands it back": the same work with its position one store on
 abbrev pub moved : Work → Work
-moved w = workOf (w .kind) (w .position + 1) (w .register) (w .journey) (w .node) (w .secret) (w .answer) (w .«answer_len»)
+moved w = workFrom (w .kind) (w .position + 1) (w .register) (w .journey) (w .node) (w .secret) (w .answer) (w .«answer_len»)
 
 -- "store: 1; 9 no store left"; success is 0
 unfoldable pub storeNumber : Work → List ℕ → ℕ
@@ -39,7 +39,7 @@ storeNumber w image = cond (eqb (length image) imageWords) (cond (ltb 0 (leftOf 
 unfoldable pub storeResult : Work → List ℕ → Stored
 storeResult w image = cond (eqb (storeNumber w image) 0) (record { number = 0; work = moved w }) (record { number = storeNumber w image; work = w })
 
--- "One call makes exactly one store: one word takes one value ..; every other word stays"; refused, every word stays
+-- "exactly one store": one word takes one value and every other stays; refused, every word stays
 unfoldable pub storeImage : Work → List ℕ → List ℕ
 storeImage w image = cond (eqb (storeNumber w image) 0) (set image (putOf w .address) (putOf w .value)) image
 

@@ -1,4 +1,4 @@
--- Works as an opening makes them (document 01: "The work carries the values it will store, its position and its prepared answer"). Assumes nothing.
+-- Works as an opening makes them: the values to be stored, the position, the prepared answer (document 01, "Work, one word at a time"). Assumes nothing.
 use Prim.Native.Nat.{ℕ, _-_}
 use mathlib.Core.List.{List, _++_}
 use lib.ListN.{length}
@@ -9,7 +9,7 @@ use Rattle.work.specs.declared.Kind.the-variants.{Nothing}
 use Rattle.work.specs.declared.Work.{Work}
 use Rattle.work.specs.declared.make.Values.{Values}
 use Rattle.work.specs.declared.make.Answer.{Answer}
-use Rattle.work.specs.Entries.{workOf}
+use Rattle.work.specs.Entries.{workFrom}
 
 -- words that a kind does not store are zero
 abbrev pub noValues : Values
@@ -23,7 +23,7 @@ abbrev pub noAnswer : Answer
 noAnswer = record { bytes = zeros answerMax; len = 0 }
 
 abbrev pub madeWork : Kind → ℕ → Values → Answer → Work
-madeWork k position v a = workOf k position (v .register) (v .journey) (v .node) (v .secret) (a .bytes) (a .len)
+madeWork k position v a = workFrom k position (v .register) (v .journey) (v .node) (v .secret) (a .bytes) (a .len)
 
 -- a work of which no store is made, with the answer a
 unfoldable pub workWith : Kind → Values → List ℕ → Work

@@ -35,7 +35,7 @@ copy a n l = record { count = n; store = λ i. put (a + i) (getD l i 0) }
 abbrev pub copyFrom : ℕ → ℕ → List ℕ → ℕ → Run
 copyFrom a n l o = record { count = n; store = λ i. put (a + i) (getD l (o + i) 0) }
 
--- "stash: mark 0; PCR31; the new node; the old holder's five handle words; mark 1"
+-- the row of a stash: the register, the new node, the old holder's handle
 abbrev pub stashRuns : StashAt → List ℕ → List ℕ → List Run
 stashRuns s register node =
     one markAt 0
@@ -45,11 +45,11 @@ stashRuns s register node =
     ∷ one markAt 1
     ∷ []
 
--- "disabling: mark 0; word 1 zero; secret zero; mark 1"
+-- the row of a disabling: off, and the secret erased
 abbrev pub disablingRuns : List Run
 disablingRuns = one markAt 0 ∷ one attestationAt 0 ∷ fill secretAt registerWords 0 ∷ one markAt 1 ∷ []
 
--- "update: mark 0; PCR2; PCR3; secret; root's current; root's cumulative; mark 1"
+-- the row of an update: both registers, the secret, the root's two measurements
 abbrev pub updateRuns : ℕ → List ℕ → List ℕ → List ℕ → List ℕ → List Run
 updateRuns root register journey node secret =
     one markAt 0
@@ -61,7 +61,7 @@ updateRuns root register journey node secret =
     ∷ one markAt 1
     ∷ []
 
--- "cold boot: mark 0; words 1 to 1215; mark 1": word 1 is 1, words 2 and 3 zero, the secret, PCR2 and PCR3 among zero registers, the root, zero nodes
+-- the row of a cold boot, which stores every word: on, two zero words, the secret, PCR2 and PCR3 among zero registers, the root, zero nodes
 abbrev pub coldRuns : List ℕ → List ℕ → List ℕ → List ℕ → List Run
 coldRuns register journey node secret =
     one markAt 0
