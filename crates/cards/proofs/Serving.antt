@@ -21,7 +21,7 @@ use Rattle.work.specs.Made.{answerIn, workWith}
 use Rattle.work.specs.declared.Kind.the-variants.{Stash}
 use Rattle.work.specs.declared.StashAt.{StashAt}
 use Rattle.opening.specs.Tasks.{Request, Task, noStores, stash, accepted}
-use Rattle.opening.specs.Rules.{badChecksum, measurementIn, answerOf}
+use Rattle.opening.specs.Rules.{wrongChecksum, measurementIn, answerOf}
 use Rattle.opening.specs.Works.{workAt}
 use Rattle.opening.specs.Openings.{openedOf, viewIn, openRequest}
 use Rattle.cards.specs.Cards.{Serving, SwitchedOff, StashRequest, usedNodes, Accepted, Declined}
@@ -57,8 +57,8 @@ module _ (m : List ℕ) (r : Request) (q : StashRequest r) where
   abbrev answer : ℕ → List ℕ
   answer n = answerOf (r .code) (bytes4 n)
 
-  sum-fits : badChecksum (r .code) (r .bytes) ≡ false
-  unfolding badChecksum
+  sum-fits : wrongChecksum (r .code) (r .bytes) ≡ false
+  unfolding wrongChecksum
   sum-fits = rw (eq-eqb (le32 (r .bytes) 0) (checksumOf (r .code) (drop 4 (r .bytes))) (q .checksum))
 
   result : (n : ℕ) → n < 256 → le32 (answerIn (answer n) .bytes) 8 ≡ n

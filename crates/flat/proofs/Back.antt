@@ -12,7 +12,7 @@ use Rattle.layout.proofs.Packing.{length-words, getD-bytes, bytes-words}
 use Rattle.work.specs.declared.Kind.{Kind}
 use Rattle.work.specs.declared.Kind.the-variants.{Nothing, Disabling, Stash, Update, ColdBoot}
 use Rattle.work.specs.declared.Work.{Work}
-use Rattle.flat.specs.Flat.{registerIn, journeyIn, nodeIn, secretIn, answerIn, answerWords, lowOf, highOf, joinedOf, kindNumber, firstIndex, secondIndex, headOf, rowOf, workWords, kindOf, positionOf, answerOf, workOf}
+use Rattle.flat.specs.Flat.{registerWord, journeyWord, nodeWord, secretWord, answerWord, answerWords, lowOf, highOf, joinedOf, kindNumber, firstIndex, secondIndex, headOf, rowOf, workWords, kindOf, positionOf, answerBytes, workOf}
 use Rattle.flat.proofs.Rows.{row-register, row-journey, row-node, row-secret, row-answer}
 
 pub joined-back : (n : ℕ) → joinedOf (lowOf n) (highOf n) ≡ n
@@ -55,47 +55,47 @@ module _ (w : Work) (t : Typed w) where
   packed : List ℕ
   packed = wordsAt answerWords (w .answer) 0
 
-  nine : length (headOf w) ≡ registerIn
+  nine : length (headOf w) ≡ registerWord
   unfolding headOf
   nine = refl
 
-  register-back : part registerWords (workWords w) registerIn ≡ w .register
+  register-back : part registerWords (workWords w) registerWord ≡ w .register
   unfolding workWords
-  register-back = part-back registerWords registerIn _ (w .register) (t .register-long)
+  register-back = part-back registerWords registerWord _ (w .register) (t .register-long)
       (row-register (headOf w) (w .register) (w .journey) (w .node) (w .secret) (wordsAt answerWords (w .answer) 0) nine (t .register-long) (t .journey-long)
       (t .node-long) (t .secret-long) (length-words answerWords (w .answer) 0))
 
-  journey-back : part registerWords (workWords w) journeyIn ≡ w .journey
+  journey-back : part registerWords (workWords w) journeyWord ≡ w .journey
   unfolding workWords
-  journey-back = part-back registerWords journeyIn _ (w .journey) (t .journey-long)
+  journey-back = part-back registerWords journeyWord _ (w .journey) (t .journey-long)
       (row-journey (headOf w) (w .register) (w .journey) (w .node) (w .secret) (wordsAt answerWords (w .answer) 0) nine (t .register-long) (t .journey-long)
       (t .node-long) (t .secret-long) (length-words answerWords (w .answer) 0))
 
-  node-back : part nodeWords (workWords w) nodeIn ≡ w .node
+  node-back : part nodeWords (workWords w) nodeWord ≡ w .node
   unfolding workWords
-  node-back = part-back nodeWords nodeIn _ (w .node) (t .node-long)
+  node-back = part-back nodeWords nodeWord _ (w .node) (t .node-long)
       (row-node (headOf w) (w .register) (w .journey) (w .node) (w .secret) (wordsAt answerWords (w .answer) 0) nine (t .register-long) (t .journey-long)
       (t .node-long) (t .secret-long) (length-words answerWords (w .answer) 0))
 
-  secret-back : part registerWords (workWords w) secretIn ≡ w .secret
+  secret-back : part registerWords (workWords w) secretWord ≡ w .secret
   unfolding workWords
-  secret-back = part-back registerWords secretIn _ (w .secret) (t .secret-long)
+  secret-back = part-back registerWords secretWord _ (w .secret) (t .secret-long)
       (row-secret (headOf w) (w .register) (w .journey) (w .node) (w .secret) (wordsAt answerWords (w .answer) 0) nine (t .register-long) (t .journey-long)
       (t .node-long) (t .secret-long) (length-words answerWords (w .answer) 0))
 
-  answer-at : (j : ℕ) → answerIn ≤ j → getD (workWords w) j 0 ≡ getD (wordsAt answerWords (w .answer) 0) (j - answerIn) 0
+  answer-at : (j : ℕ) → answerWord ≤ j → getD (workWords w) j 0 ≡ getD (wordsAt answerWords (w .answer) 0) (j - answerWord) 0
   unfolding workWords
   answer-at =
       row-answer (headOf w) (w .register) (w .journey) (w .node) (w .secret) (wordsAt answerWords (w .answer) 0) nine (t .register-long) (t .journey-long)
       (t .node-long) (t .secret-long) (length-words answerWords (w .answer) 0)
 
-  answer-back : answerOf (workWords w) ≡ w .answer
-  unfolding answerOf
+  answer-back : answerBytes (workWords w) ≡ w .answer
+  unfolding answerBytes
   answer-back =
-      tab-is (λ k. byteOf (getD (workWords w) (answerIn + k / 4) 0) (k % 4)) (w .answer) answerMax (t .answer-long)
+      tab-is (λ k. byteOf (getD (workWords w) (answerWord + k / 4) 0) (k % 4)) (w .answer) answerMax (t .answer-long)
       (λ i b.
-      let e : answerIn + i / 4 - answerIn ≡ i / 4 = omega arith in
-      ap (λ (x : ℕ). byteOf x (i % 4)) (answer-at (answerIn + i / 4) (omega arith) ∙ ap (λ (k : ℕ). getD (wordsAt answerWords (w .answer) 0) k 0) e)
+      let e : answerWord + i / 4 - answerWord ≡ i / 4 = omega arith in
+      ap (λ (x : ℕ). byteOf x (i % 4)) (answer-at (answerWord + i / 4) (omega arith) ∙ ap (λ (k : ℕ). getD (wordsAt answerWords (w .answer) 0) k 0) e)
       ∙ sym (getD-bytes answerMax (wordsAt answerWords (w .answer) 0) i b)
       ∙ ap (λ (l : List ℕ). getD l i 0) (bytes-words answerWords (w .answer) (t .answer-long) (t .bytes-small)))
 

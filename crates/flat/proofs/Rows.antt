@@ -9,7 +9,7 @@ use lib.Seq.{getD-append-add}
 use Rattle.layout.specs.Sizes.{registerWords, nodeWords}
 use Rattle.layout.specs.Words.{tab}
 use Rattle.layout.proofs.Tab.{tab-full, tab-is}
-use Rattle.flat.specs.Flat.{registerIn, journeyIn, nodeIn, secretIn, answerIn, answerWords, workSize, rowOf}
+use Rattle.flat.specs.Flat.{registerWord, journeyWord, nodeWord, secretWord, answerWord, answerWords, workSize, rowOf}
 
 -- what stands behind a front of n elements
 skip : (n : ℕ) (front rest : List ℕ) (j : ℕ) → length front ≡ n → n ≤ j → getD (front ++ rest) j 0 ≡ getD rest (j - n) 0
@@ -23,42 +23,42 @@ next p n front rest j h l =
     let e : j - p - n ≡ j - (p + n) = omega arith in
     skip n front rest (j - p) h (omega arith) ∙ ap (λ (i : ℕ). getD rest i 0) e
 
-module _ (head register journey node secret answer : List ℕ) (h0 : length head ≡ registerIn) (h1 : length register ≡ registerWords)
+module _ (head register journey node secret answer : List ℕ) (h0 : length head ≡ registerWord) (h1 : length register ≡ registerWords)
     (h2 : length journey ≡ registerWords) (h3 : length node ≡ nodeWords) (h4 : length secret ≡ registerWords) (h5 : length answer ≡ answerWords)
   where
-    pub row-head : (j : ℕ) → j < registerIn → getD (rowOf head register journey node secret answer) j 0 ≡ getD head j 0
+    pub row-head : (j : ℕ) → j < registerWord → getD (rowOf head register journey node secret answer) j 0 ≡ getD head j 0
     unfolding rowOf
     row-head j l = List·getD-append head (register ++ (journey ++ (node ++ (secret ++ answer)))) 0 j (omega arith)
 
-    from1 : (j : ℕ) → registerIn ≤ j
-        → getD (rowOf head register journey node secret answer) j 0 ≡ getD (register ++ (journey ++ (node ++ (secret ++ answer)))) (j - registerIn) 0
+    from1 : (j : ℕ) → registerWord ≤ j
+        → getD (rowOf head register journey node secret answer) j 0 ≡ getD (register ++ (journey ++ (node ++ (secret ++ answer)))) (j - registerWord) 0
     unfolding rowOf
-    from1 j l = skip registerIn head (register ++ (journey ++ (node ++ (secret ++ answer)))) j h0 l
+    from1 j l = skip registerWord head (register ++ (journey ++ (node ++ (secret ++ answer)))) j h0 l
 
-    from2 : (j : ℕ) → journeyIn ≤ j
-        → getD (rowOf head register journey node secret answer) j 0 ≡ getD (journey ++ (node ++ (secret ++ answer))) (j - journeyIn) 0
-    from2 j l = from1 j (omega arith) ∙ next registerIn registerWords register (journey ++ (node ++ (secret ++ answer))) j h1 l
+    from2 : (j : ℕ) → journeyWord ≤ j
+        → getD (rowOf head register journey node secret answer) j 0 ≡ getD (journey ++ (node ++ (secret ++ answer))) (j - journeyWord) 0
+    from2 j l = from1 j (omega arith) ∙ next registerWord registerWords register (journey ++ (node ++ (secret ++ answer))) j h1 l
 
-    from3 : (j : ℕ) → nodeIn ≤ j → getD (rowOf head register journey node secret answer) j 0 ≡ getD (node ++ (secret ++ answer)) (j - nodeIn) 0
-    from3 j l = from2 j (omega arith) ∙ next journeyIn registerWords journey (node ++ (secret ++ answer)) j h2 l
+    from3 : (j : ℕ) → nodeWord ≤ j → getD (rowOf head register journey node secret answer) j 0 ≡ getD (node ++ (secret ++ answer)) (j - nodeWord) 0
+    from3 j l = from2 j (omega arith) ∙ next journeyWord registerWords journey (node ++ (secret ++ answer)) j h2 l
 
-    from4 : (j : ℕ) → secretIn ≤ j → getD (rowOf head register journey node secret answer) j 0 ≡ getD (secret ++ answer) (j - secretIn) 0
-    from4 j l = from3 j (omega arith) ∙ next nodeIn nodeWords node (secret ++ answer) j h3 l
+    from4 : (j : ℕ) → secretWord ≤ j → getD (rowOf head register journey node secret answer) j 0 ≡ getD (secret ++ answer) (j - secretWord) 0
+    from4 j l = from3 j (omega arith) ∙ next nodeWord nodeWords node (secret ++ answer) j h3 l
 
-    pub row-register : (j : ℕ) → registerIn ≤ j → j < journeyIn → getD (rowOf head register journey node secret answer) j 0 ≡ getD register (j - registerIn) 0
-    row-register j l m = from1 j l ∙ List·getD-append register (journey ++ (node ++ (secret ++ answer))) 0 (j - registerIn) (omega arith)
+    pub row-register : (j : ℕ) → registerWord ≤ j → j < journeyWord → getD (rowOf head register journey node secret answer) j 0 ≡ getD register (j - registerWord) 0
+    row-register j l m = from1 j l ∙ List·getD-append register (journey ++ (node ++ (secret ++ answer))) 0 (j - registerWord) (omega arith)
 
-    pub row-journey : (j : ℕ) → journeyIn ≤ j → j < nodeIn → getD (rowOf head register journey node secret answer) j 0 ≡ getD journey (j - journeyIn) 0
-    row-journey j l m = from2 j l ∙ List·getD-append journey (node ++ (secret ++ answer)) 0 (j - journeyIn) (omega arith)
+    pub row-journey : (j : ℕ) → journeyWord ≤ j → j < nodeWord → getD (rowOf head register journey node secret answer) j 0 ≡ getD journey (j - journeyWord) 0
+    row-journey j l m = from2 j l ∙ List·getD-append journey (node ++ (secret ++ answer)) 0 (j - journeyWord) (omega arith)
 
-    pub row-node : (j : ℕ) → nodeIn ≤ j → j < secretIn → getD (rowOf head register journey node secret answer) j 0 ≡ getD node (j - nodeIn) 0
-    row-node j l m = from3 j l ∙ List·getD-append node (secret ++ answer) 0 (j - nodeIn) (omega arith)
+    pub row-node : (j : ℕ) → nodeWord ≤ j → j < secretWord → getD (rowOf head register journey node secret answer) j 0 ≡ getD node (j - nodeWord) 0
+    row-node j l m = from3 j l ∙ List·getD-append node (secret ++ answer) 0 (j - nodeWord) (omega arith)
 
-    pub row-secret : (j : ℕ) → secretIn ≤ j → j < answerIn → getD (rowOf head register journey node secret answer) j 0 ≡ getD secret (j - secretIn) 0
-    row-secret j l m = from4 j l ∙ List·getD-append secret answer 0 (j - secretIn) (omega arith)
+    pub row-secret : (j : ℕ) → secretWord ≤ j → j < answerWord → getD (rowOf head register journey node secret answer) j 0 ≡ getD secret (j - secretWord) 0
+    row-secret j l m = from4 j l ∙ List·getD-append secret answer 0 (j - secretWord) (omega arith)
 
-    pub row-answer : (j : ℕ) → answerIn ≤ j → getD (rowOf head register journey node secret answer) j 0 ≡ getD answer (j - answerIn) 0
-    row-answer j l = from4 j (omega arith) ∙ next secretIn registerWords secret answer j h4 l
+    pub row-answer : (j : ℕ) → answerWord ≤ j → getD (rowOf head register journey node secret answer) j 0 ≡ getD answer (j - answerWord) 0
+    row-answer j l = from4 j (omega arith) ∙ next secretWord registerWords secret answer j h4 l
 
     pub row-length : length (rowOf head register journey node secret answer) ≡ workSize
     unfolding rowOf

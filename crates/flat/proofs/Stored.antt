@@ -25,7 +25,7 @@ use Rattle.work.specs.Parts.{storing}
 use Rattle.work.proofs.Numbers.{number-nothing}
 use Rattle.work.proofs.Shape.{left-position}
 use Rattle.work.proofs.Parts.{storingOf, number-storing, image-storing}
-use Rattle.flat.specs.Flat.{registerIn, journeyIn, nodeIn, secretIn, answerIn, workSize, positionIn, lowOf, highOf, kindOf, positionOf, answerOf, workOf}
+use Rattle.flat.specs.Flat.{registerWord, journeyWord, nodeWord, secretWord, answerWord, workSize, positionWord, lowOf, highOf, kindOf, positionOf, answerBytes, workOf}
 use Rattle.flat.specs.Forms.{storeNumberIn, withPosition, storeWords, storeHand, storeImageIn}
 use Rattle.flat.proofs.Back.{joined-back}
 
@@ -34,8 +34,8 @@ module _ (l : List ℕ) (h : length l ≡ workSize) (kind : Kind) (p n : ℕ) (a
     (c : n ≡ workOf l .«answer_len») where
   abbrev pub partsIn : Work
   partsIn =
-      storing kind p n (take registerWords (drop registerIn l)) (take registerWords (drop journeyIn l)) (take nodeWords (drop nodeIn l))
-      (take registerWords (drop secretIn l))
+      storing kind p n (take registerWords (drop registerWord l)) (take registerWords (drop journeyWord l)) (take nodeWords (drop nodeWord l))
+      (take registerWords (drop secretWord l))
 
   parts : partsIn ≡ storingOf (workOf l)
   unfolding workOf
@@ -44,10 +44,10 @@ module _ (l : List ℕ) (h : length l ≡ workSize) (kind : Kind) (p n : ℕ) (a
         a,
         b,
         c,
-        part-within registerWords l registerIn (omega arith),
-        part-within registerWords l journeyIn (omega arith),
-        part-within nodeWords l nodeIn (omega arith),
-        part-within registerWords l secretIn (omega arith),
+        part-within registerWords l registerWord (omega arith),
+        part-within registerWords l journeyWord (omega arith),
+        part-within nodeWords l nodeWord (omega arith),
+        part-within registerWords l secretWord (omega arith),
       )
 
   pub number-parts : (image : List ℕ) → storeNumber partsIn image ≡ storeNumber (workOf l) image
@@ -76,13 +76,13 @@ module _ (l : List ℕ) (h : length l ≡ workSize) (p : ℕ) where
       tab-is (λ k. getD (withPosition l p) (at + k) 0) (part n l at) n (length-part n l at)
       (λ i c. other (at + i) (λ e. omega (arith, e)) (λ e. omega (arith, e)) ∙ sym (getD-part n l at i c))
 
-  answer-kept : answerOf (withPosition l p) ≡ answerOf l
-  unfolding answerOf
+  answer-kept : answerBytes (withPosition l p) ≡ answerBytes l
+  unfolding answerBytes
   answer-kept =
-      let f : ℕ → ℕ = λ k. byteOf (getD l (answerIn + k / 4) 0) (k % 4) in
-      tab-is (λ k. byteOf (getD (withPosition l p) (answerIn + k / 4) 0) (k % 4)) (answerOf l) answerMax (length-tab f answerMax)
+      let f : ℕ → ℕ = λ k. byteOf (getD l (answerWord + k / 4) 0) (k % 4) in
+      tab-is (λ k. byteOf (getD (withPosition l p) (answerWord + k / 4) 0) (k % 4)) (answerBytes l) answerMax (length-tab f answerMax)
       (λ i c.
-      ap (λ (x : ℕ). byteOf x (i % 4)) (other (answerIn + i / 4) (λ e. omega (arith, e)) (λ e. omega (arith, e)))
+      ap (λ (x : ℕ). byteOf x (i % 4)) (other (answerWord + i / 4) (λ e. omega (arith, e)) (λ e. omega (arith, e)))
       ∙ sym (getD-tab f answerMax i c))
 
   abbrev placed : ℕ → Work
@@ -114,10 +114,10 @@ module _ (l : List ℕ) (h : length l ≡ workSize) (p : ℕ) where
         high-word,
         lt-ltb (getD l 0 0) 5 k,
         joined-back p,
-        part-kept registerWords registerIn (omega arith),
-        part-kept registerWords journeyIn (omega arith),
-        part-kept nodeWords nodeIn (omega arith),
-        part-kept registerWords secretIn (omega arith),
+        part-kept registerWords registerWord (omega arith),
+        part-kept registerWords journeyWord (omega arith),
+        part-kept nodeWords nodeWord (omega arith),
+        part-kept registerWords secretWord (omega arith),
         answer-kept,
       )
 
@@ -209,7 +209,7 @@ module _ (l image : List ℕ) (h : length l ≡ workSize) (n : ℕ) (e : n ≡ s
   some-left z = made-left (workOf l) image (eq-eqb (storeNumber (workOf l) image) 0 (sym e ∙ z))
 
   pub words-moved : (p lo hi : ℕ) → n ≡ 0 → p ≡ workOf l .position → lo ≡ lowOf (p + 1) → hi ≡ highOf (p + 1)
-      → set (set l positionIn lo) (positionIn + 1) hi ≡ storeWords l image
+      → set (set l positionWord lo) (positionWord + 1) hi ≡ storeWords l image
   unfolding withPosition
   words-moved p lo hi z q a b =
       let g = eq-eqb (storeNumber (workOf l) image) 0 (sym e ∙ z) in

@@ -15,30 +15,30 @@ use Rattle.work.specs.declared.Work.{Work}
 -- ---- where each field stands
 
 -- words 0 to 8: the kind's number, then the two words, low and high, of its first index, its second index, the position, the answer's length
-abbrev pub positionIn : ℕ
-positionIn = 5
+abbrev pub positionWord : ℕ
+positionWord = 5
 
-abbrev pub registerIn : ℕ
-registerIn = 9
+abbrev pub registerWord : ℕ
+registerWord = 9
 
-abbrev pub journeyIn : ℕ
-journeyIn = registerIn + registerWords
+abbrev pub journeyWord : ℕ
+journeyWord = registerWord + registerWords
 
-abbrev pub nodeIn : ℕ
-nodeIn = journeyIn + registerWords
+abbrev pub nodeWord : ℕ
+nodeWord = journeyWord + registerWords
 
-abbrev pub secretIn : ℕ
-secretIn = nodeIn + nodeWords
+abbrev pub secretWord : ℕ
+secretWord = nodeWord + nodeWords
 
-abbrev pub answerIn : ℕ
-answerIn = secretIn + registerWords
+abbrev pub answerWord : ℕ
+answerWord = secretWord + registerWords
 
 -- the answer's bytes, four to a word, the first lowest
 abbrev pub answerWords : ℕ
 answerWords = answerMax / 4
 
 abbrev pub workSize : ℕ
-workSize = answerIn + answerWords
+workSize = answerWord + answerWords
 
 -- ---- from a work to words
 
@@ -89,7 +89,7 @@ rowOf head register journey node secret answer = head ++ (register ++ (journey +
 
 -- parts as long as a work's
 pub record PartsLong (head register journey node secret answer : List ℕ) : Type 0 where
-  pub head-long : length head ≡ registerIn
+  pub head-long : length head ≡ registerWord
   pub register-long : length register ≡ registerWords
   pub journey-long : length journey ≡ registerWords
   pub node-long : length node ≡ nodeWords
@@ -122,19 +122,19 @@ kindOf number first second =
 unfoldable pub positionOf : ℕ → ℕ → ℕ
 positionOf number position = cond (ltb number 5) position 1
 
-unfoldable pub answerOf : List ℕ → List ℕ
-answerOf l = tab answerMax (λ k. byteOf (getD l (answerIn + k / 4) 0) (k % 4))
+unfoldable pub answerBytes : List ℕ → List ℕ
+answerBytes l = tab answerMax (λ k. byteOf (getD l (answerWord + k / 4) 0) (k % 4))
 
 unfoldable pub workOf : List ℕ → Work
 workOf l =
     record {
       kind = kindOf (getD l 0 0) (longAt l 1) (longAt l 3);
       position = positionOf (getD l 0 0) (longAt l 5);
-      register = part registerWords l registerIn;
-      journey = part registerWords l journeyIn;
-      node = part nodeWords l nodeIn;
-      secret = part registerWords l secretIn;
-      answer = answerOf l;
+      register = part registerWords l registerWord;
+      journey = part registerWords l journeyWord;
+      node = part nodeWords l nodeWord;
+      secret = part registerWords l secretWord;
+      answer = answerBytes l;
       «answer_len» = longAt l 7;
     }
 

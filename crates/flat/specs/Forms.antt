@@ -15,7 +15,7 @@ use Rattle.opening.specs.declared.Opened.{Opened}
 use Rattle.opening.specs.declared.BootStatus.{BootStatus}
 use Rattle.opening.specs.declared.BootStatus.the-variants as bootStatus
 use Rattle.opening.specs.declared.Booted.{Booted}
-use Rattle.flat.specs.Flat.{workSize, positionIn, lowOf, highOf, workWords, workOf}
+use Rattle.flat.specs.Flat.{workSize, positionWord, lowOf, highOf, workWords, workOf}
 
 -- the number of a buffer that is not as long as a work
 abbrev pub wrongWork : ℕ
@@ -42,16 +42,16 @@ ifBooted (bootStatus.Ready o) a other = a
 ifBooted (bootStatus.Refused n) a other = other
 
 -- the outcome's number, where there is one
-abbrev pub outcomeIn : BootStatus → ℕ → ℕ
-outcomeIn (bootStatus.Ready o) before = outcomeNumber o
-outcomeIn (bootStatus.Refused n) before = before
+abbrev pub outcomeAfter : BootStatus → ℕ → ℕ
+outcomeAfter (bootStatus.Ready o) before = outcomeNumber o
+outcomeAfter (bootStatus.Refused n) before = before
 
 -- the same of a boot, with the outcome that it leaves
 pub record BootsAs (before after : List ℕ) (outcome outcome' : ℕ) (number : ℕ) (b : Booted) : Type 0 where
   pub number-is : number ≡ ofWork before (bootNumber (b .status)) wrongWork
   pub words-are : after ≡ ofWork before (ifBooted (b .status) (workWords (b .work)) before) before
   pub work-is : workOf after ≡ ofWork before (ifBooted (b .status) (b .work) (workOf before)) (workOf before)
-  pub outcome-is : outcome' ≡ ofWork before (outcomeIn (b .status) outcome) outcome
+  pub outcome-is : outcome' ≡ ofWork before (outcomeAfter (b .status) outcome) outcome
 
 -- ---- the entries over a work
 
@@ -63,7 +63,7 @@ storeNumberIn l image = ofWork l (storeResult (workOf l) image .number) wrongWor
 
 -- the two words of the position, and no other
 unfoldable pub withPosition : List ℕ → ℕ → List ℕ
-withPosition l p = set (set l positionIn (lowOf p)) (positionIn + 1) (highOf p)
+withPosition l p = set (set l positionWord (lowOf p)) (positionWord + 1) (highOf p)
 
 -- a store that is made moves the position; refused, every word stays
 unfoldable pub storeWords : List ℕ → List ℕ → List ℕ

@@ -7,7 +7,7 @@ ghost use mathlib.Core.Path.{_≡_};
 ghost use Prim.Native.Nat.{_<_};
 ghost use lib.ListN.{length, getD};
 ghost use Rattle.layout.specs.Words.{byteOf, wordsAt};
-ghost use Rattle.flat.specs.Flat.{AllBytes, PartsLong, workSize, answerWords, lowOf, highOf, joinedOf, kindNumber, firstIndex, secondIndex, headOf, rowOf, workWords, kindOf, positionOf, answerOf, workOf};
+ghost use Rattle.flat.specs.Flat.{AllBytes, PartsLong, workSize, answerWords, lowOf, highOf, joinedOf, kindNumber, firstIndex, secondIndex, headOf, rowOf, workWords, kindOf, positionOf, answerBytes, workOf};
 use layout::ANSWER_MAX;
 use layout::NODE_WORDS;
 use layout::REGISTER_WORDS;
@@ -132,7 +132,7 @@ fn byte_of(w: u32, j: usize) -> u8
 }
 
 pub(crate) fn answer_in(words: &[u32]) -> [u8; ANSWER_MAX]
-    ensures { λ r. ⌜ r ≡ answerOf (now (words .entry)) ⌝ }
+    ensures { λ r. ⌜ r ≡ answerBytes (now (words .entry)) ⌝ }
 {
     let mut out = [0u8; ANSWER_MAX];
     let mut k = 0;

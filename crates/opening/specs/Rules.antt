@@ -41,8 +41,8 @@ decide (r ∷ rs) declined otherwise = cond (r .applies) (judged declined (r .ve
 -- ---- the request's fields
 
 -- "Byte 0 to 3 is the checksum. It must equal" the checksum of the code and of every byte after the field
-unfoldable pub badChecksum : ℕ → List ℕ → Bool
-badChecksum code bytes = not (eqb (le32 bytes 0) (checksumOf code (drop 4 bytes)))
+unfoldable pub wrongChecksum : ℕ → List ℕ → Bool
+wrongChecksum code bytes = not (eqb (le32 bytes 0) (checksumOf code (drop 4 bytes)))
 
 -- the handoff table (003): its size, its marker, and major version 1; the minor version is free
 unfoldable pub handoffOk : List ℕ → Bool
@@ -137,7 +137,7 @@ served c r = accepted (c .task r) (answerOf (r .code) (c .answer r))
 -- "4 wrong request length; 0x4243484B bad checksum; .." and then the command's own
 abbrev pub commandRules : Command → View → Request → List Rule
 commandRules c v r =
-    refuses number.wrongLength (not (c .lengthOk (r .bytes))) ∷ refuses number.badChecksum (badChecksum (r .code) (r .bytes)) ∷ c .rules v r
+    refuses number.wrongLength (not (c .lengthOk (r .bytes))) ∷ refuses number.badChecksum (wrongChecksum (r .code) (r .bytes)) ∷ c .rules v r
 
 -- "request: .. 2 mark not 1; 3 unknown code; .."
 abbrev pub requestRules : View → Request → List Rule

@@ -12,7 +12,7 @@ use Rattle.layout.specs.Refusals as number
 use Rattle.layout.proofs.Cases.{and-left}
 use Rattle.work.specs.Made.{refusedWork}
 use Rattle.opening.specs.Tasks.{Request, Ruling, refused}
-use Rattle.opening.specs.Rules.{badChecksum, handoffOk, Command, commandOf, decide, declined, served, commandRuling}
+use Rattle.opening.specs.Rules.{wrongChecksum, handoffOk, Command, commandOf, decide, declined, served, commandRuling}
 use Rattle.opening.specs.Openings.{openedOf, viewIn, openRequest}
 use Rattle.opening.specs.declared.Status.{Status}
 use Rattle.opening.specs.declared.Status.the-variants as status
@@ -36,8 +36,8 @@ pub by-screen : (c : Command) (image : List ℕ) (r : Request) (n : ℕ) (s : St
     → screenOf (r .code) (r .bytes) n ≡ s → commandOpened c image r ≡ afterScreen (screenedOpened c image r) s
 unfolding commandOpened screenedOpened commandRuling screenOf
 by-screen c image r n s e h =
-    ap (λ (b : Bool). openedOf image (cond (not b) (refused number.wrongLength) (cond (badChecksum (r .code) (r .bytes)) (refused number.badChecksum) rest))) e
-    ∙ in-turn image (eqb (length (r .bytes)) n) (badChecksum (r .code) (r .bytes)) rest
+    ap (λ (b : Bool). openedOf image (cond (not b) (refused number.wrongLength) (cond (wrongChecksum (r .code) (r .bytes)) (refused number.badChecksum) rest))) e
+    ∙ in-turn image (eqb (length (r .bytes)) n) (wrongChecksum (r .code) (r .bytes)) rest
     ∙ ap (afterScreen (openedOf image rest)) h
   where
     rest : Ruling
@@ -50,7 +50,7 @@ passed false t h = let z : _≡_ {A = ℕ} 0 1 = cc in absurd (omega arith)
 
 pub screened-length : (code : ℕ) (bytes : List ℕ) (n : ℕ) → screenOf code bytes n ≡ status.Ready → length bytes ≡ n
 unfolding screenOf
-screened-length code bytes n h = eqb-true (length bytes) n (passed (eqb (length bytes) n) (badChecksum code bytes) h)
+screened-length code bytes n h = eqb-true (length bytes) n (passed (eqb (length bytes) n) (wrongChecksum code bytes) h)
 
 pub handoff-length : (h : List ℕ) → handoffOk h ≡ true → length h ≡ 2048
 unfolding handoffOk

@@ -6,7 +6,7 @@ use lib.Dec.{eqb}
 use lib.ListN.{length}
 use Rattle.layout.specs.Refusals as number
 use Rattle.opening.specs.Tasks.{Request}
-use Rattle.opening.specs.Rules.{badChecksum, Command, decide, declined, served, commandRuling}
+use Rattle.opening.specs.Rules.{wrongChecksum, Command, decide, declined, served, commandRuling}
 use Rattle.opening.specs.Openings.{openedOf, viewIn}
 use Rattle.opening.specs.declared.Status.{Status}
 use Rattle.opening.specs.declared.Status.the-variants as status
@@ -15,7 +15,7 @@ use Rattle.opening.specs.declared.Opened.{Opened}
 -- "4 wrong request length; 0x4243484B bad checksum", for a command whose request has n bytes
 unfoldable pub screenOf : ℕ → List ℕ → ℕ → Status
 screenOf code bytes n =
-    cond (eqb (length bytes) n) (cond (badChecksum code bytes) (status.Refused number.badChecksum) status.Ready) (status.Refused number.wrongLength)
+    cond (eqb (length bytes) n) (cond (wrongChecksum code bytes) (status.Refused number.badChecksum) status.Ready) (status.Refused number.wrongLength)
 
 -- what a command's opening answers, at an image whose size and mark are fine
 unfoldable pub commandOpened : Command → List ℕ → Request → Opened

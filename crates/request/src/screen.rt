@@ -2,7 +2,7 @@
 ghost use mathlib.Core.Path.{_≡_};
 ghost use Prim.Native.Nat.{_≤_};
 ghost use lib.ListN.{length};
-ghost use Rattle.opening.specs.Rules.{badChecksum};
+ghost use Rattle.opening.specs.Rules.{wrongChecksum};
 ghost use Rattle.request.specs.Screen.{screenOf};
 use layout::little_endian::read32;
 use layout::refusals::BAD_CHECKSUM;
@@ -11,7 +11,7 @@ use opening::Status;
 
 fn bad_checksum(code: u32, bytes: &[u8]) -> bool
     requires { ⌜ 4 ≤ length (now bytes) ⌝ }
-    ensures { λ r. ⌜ r ≡ badChecksum code (now (bytes .entry)) ⌝ }
+    ensures { λ r. ⌜ r ≡ wrongChecksum code (now (bytes .entry)) ⌝ }
 {
     read32(bytes, 0) != message::checksum(code, &bytes[4..])
 }

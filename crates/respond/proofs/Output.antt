@@ -18,7 +18,7 @@ use Rattle.opening.specs.Openings.{statusNumber}
 use Rattle.opening.specs.declared.Status.{Status}
 use Rattle.opening.specs.declared.Status.the-variants as status
 use Rattle.respond.specs.declared.Response.{Response}
-use Rattle.respond.specs.Program.{responseMax, responseOf, answerIn, written}
+use Rattle.respond.specs.Program.{responseMax, responseOf, answerBytes, written}
 use Rattle.work.proofs.After.{SameAnswer}
 
 -- what `with_result` hands back
@@ -30,7 +30,7 @@ response n bytes = record { len = n; bytes = bytes }
 
 -- a refusal
 pub refused-output : (w : Work) (s : Status) (n : ℕ) → s ≡ status.Refused n
-    → responseWith (statusNumber s) 0 (replicate responseMax 0) ≡ responseOf (bytes4 (statusNumber s) ++ answerIn w s)
+    → responseWith (statusNumber s) 0 (replicate responseMax 0) ≡ responseOf (bytes4 (statusNumber s) ++ answerBytes w s)
 unfolding responseOf zeros
 refused-output w status.Ready n e = let z : _≡_ {A = ℕ} 0 1 = cc in absurd (omega arith)
 refused-output w (status.Refused m) n e = refl
@@ -66,7 +66,7 @@ module _ (done : Work) (end : finished done ≡ true) where
       (ap (λ (l : List ℕ). take n (done .answer) ++ l) (ap (λ (k : ℕ). drop k (zs answerMax)) (zero-add n) ∙ dropped n answerMax fits))
 
   pub answered-output : (w : Work) → SameAnswer done w → length (done .answer) ≡ answerMax → (o : List ℕ) → o ≡ answerBuffer done room
-      → responseWith 0 (done .«answer_len») (putMid 4 (responseMax - 4) (zs responseMax) o) ≡ responseOf (bytes4 0 ++ answerIn w status.Ready)
+      → responseWith 0 (done .«answer_len») (putMid 4 (responseMax - 4) (zs responseMax) o) ≡ responseOf (bytes4 0 ++ answerBytes w status.Ready)
   unfolding responseOf zeros
   answered-output w same long o e =
       let n = done .«answer_len» in
@@ -78,8 +78,8 @@ module _ (done : Work) (end : finished done ≡ true) where
       ∙ ap (λ (l : List ℕ). bytes4 0 ++ l) (append-nil (a ++ zs (answerMax - n)) ∙ ap (λ (k : ℕ). a ++ zs k) gap))
       ∙ ap₂ (λ (k : ℕ) (b : List ℕ). responseOf (bytes4 0 ++ take k b)) (same .len) (same .bytes)
 
-pub ready-written : (w : Work) (s : Status) → s ≡ status.Ready → bytes4 0 ++ answerIn w status.Ready ≡ bytes4 (statusNumber s) ++ answerIn w s
-ready-written w s e = ap (λ (x : Status). bytes4 (statusNumber x) ++ answerIn w x) (sym e)
+pub ready-written : (w : Work) (s : Status) → s ≡ status.Ready → bytes4 0 ++ answerBytes w status.Ready ≡ bytes4 (statusNumber s) ++ answerBytes w s
+ready-written w s e = ap (λ (x : Status). bytes4 (statusNumber x) ++ answerBytes w x) (sym e)
 
 -- the bytes of a response that count are among its bytes
 pub response-within : (r : Response) (output : List ℕ) → r ≡ responseOf output → r .len ≤ length (r .bytes)

@@ -25,13 +25,13 @@ unfoldable pub requestIn : List ℕ → Request
 requestIn input = requestOf (cond (ltb (length input) 4) 0 (le32 input 0)) (drop 4 input) 0 [] false
 
 -- what follows the result: the answer, or nothing where the request is refused
-abbrev pub answerIn : Work → Status → List ℕ
-answerIn w status.Ready = take (w .«answer_len») (w .answer)
-answerIn w (status.Refused n) = []
+abbrev pub answerBytes : Work → Status → List ℕ
+answerBytes w status.Ready = take (w .«answer_len») (w .answer)
+answerBytes w (status.Refused n) = []
 
 -- all that is written
 unfoldable pub written : Opened → List ℕ
-written o = bytes4 (statusNumber (o .status)) ++ answerIn (o .work) (o .status)
+written o = bytes4 (statusNumber (o .status)) ++ answerBytes (o .work) (o .status)
 
 -- the output for an input of which all bytes are used. The stores of the request's own work change the image and not the answer, which is the work's from
 -- its opening on; so no output shows them.

@@ -5,7 +5,7 @@ use mathlib.Core.Path.{refl, sym, _∙_}
 use lib.ListN.{length, length-set}
 use borrow.Author.Tests.{ne-eqb}
 use Rattle.work.proofs.Shape.{left-below}
-use Rattle.flat.specs.Flat.{workSize, workOf, positionIn}
+use Rattle.flat.specs.Flat.{workSize, workOf, positionWord}
 use Rattle.flat.specs.Forms.{storeNumberIn, storeWords, storeHand, storeImageIn}
 use Rattle.flat.proofs.Stored.{number-in, image-in, words-kept, words-moved, hand-in, some-left}
 use borrow.Author.Needs.{needs}
@@ -78,7 +78,7 @@ mul-work c = search needs
 slice-write-work-2 : tie.Need-slice-write-work-2
 slice-write-work-2 c =
     let c13 = c .before .before .before .before .before .before .before .before .before .before .before .before .before in
-    omega (arith, length-set (c13 .args .work .now) positionIn (c .before .low .result))
+    omega (arith, length-set (c13 .args .work .now) positionWord (c .before .low .result))
 
 same-length-3 : tie.Need-same-length-3
 same-length-3 c = search needs

@@ -7,12 +7,12 @@ use lib.ListN.{length, take, getD, length-set}
 use Rattle.layout.specs.Sizes.{answerMax}
 use Rattle.layout.specs.Words.{tab, byteOf}
 use Rattle.layout.proofs.Tab.{tab-none, tab-more, tab-full}
-use Rattle.flat.specs.Flat.{answerIn, answerOf}
+use Rattle.flat.specs.Flat.{answerWord, answerBytes}
 use Rattle.flat.proofs.words.answer_in.Statement.{statement}
 use Rattle.flat.proofs.words.answer_in.Tie as tie
 
 abbrev Inv-loop : tie.InvT-loop
-Inv-loop words out₀ k₀ out k = (k ≤ answerMax) × (length out ≡ answerMax) × (take k out ≡ tab k (λ j. byteOf (getD words (answerIn + j / 4) 0) (j % 4)))
+Inv-loop words out₀ k₀ out k = (k ≤ answerMax) × (length out ≡ answerMax) × (take k out ≡ tab k (λ j. byteOf (getD words (answerWord + j / 4) 0) (j % 4)))
 
 abbrev μ-loop : tie.MeasureT-loop
 μ-loop words out₀ k₀ out k = answerMax - k
@@ -47,7 +47,7 @@ loop-again c = let l = c .before .before .before .loop in (
 )
 
 returns : tie.Need-returns Inv-loop μ-loop
-unfolding answerOf
+unfolding answerBytes
 returns c = let l = c .before .loop in
     let e : l .k ≡ answerMax = omega arith in
     tab-full _ (l .out) (answerMax) (l .inv .1) (rw e at (l .inv .2))

@@ -3,7 +3,7 @@ use native.Mathlib.Omega.{arith}
 use Prim.Native.Nat.{_-_}
 use lib.ListN.{length, drop, length-drop}
 use lib.Seq.{take-all}
-use Rattle.opening.specs.Rules.{badChecksum}
+use Rattle.opening.specs.Rules.{wrongChecksum}
 use borrow.Author.Needs.{needs}
 use Rattle.request.proofs.screen.bad_checksum.Statement.{statement}
 use Rattle.request.proofs.screen.bad_checksum.Tie as tie
@@ -24,7 +24,7 @@ checksum-requires : tie.Need-checksum-requires
 checksum-requires c κs = search needs
 
 returns : tie.Need-returns
-unfolding badChecksum
+unfolding wrongChecksum
 returns c =
     let b = c .before .before .before .before .args .bytes .now in
     rw (c .before .before .read32 .ensures, c .checksum .ensures, take-all (length b - 4) (drop 4 b) (simp length-drop (omega arith)))
