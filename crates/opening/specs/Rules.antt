@@ -134,7 +134,7 @@ declined r n = accepted noStores (answerOf (r .code) (bytes4 n))
 abbrev pub served : Command → Request → Ruling
 served c r = accepted (c .task r) (answerOf (r .code) (c .answer r))
 
--- "4 wrong request length; 0x4243484B bad checksum; .." and then the command's own
+-- length and checksum first, and then the command's own rules
 abbrev pub commandRules : Command → View → Request → List Rule
 commandRules c v r =
     refuses number.wrongLength (not (c .lengthOk (r .bytes))) ∷ refuses number.badChecksum (wrongChecksum (r .code) (r .bytes)) ∷ c .rules v r
