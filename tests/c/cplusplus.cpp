@@ -4,23 +4,12 @@
  */
 #include "waggleloft.h"
 
+#include "check.h"
+
 #include <array>
 #include <cstdint>
 #include <cstdio>
 #include <cstring>
-
-static unsigned passed;
-static unsigned failed;
-
-static void check(bool holds, const char *name)
-{
-    if (holds) {
-        passed++;
-    } else {
-        failed++;
-        std::printf("FAILED: %s\n", name);
-    }
-}
 
 int main()
 {
@@ -34,7 +23,9 @@ int main()
     std::size_t written = 99, stores = 0;
 
     check(waggleloft_work_words() == work.size() && waggleloft_image_words() == image.size(), "sizes");
-    check(std::strcmp(WAGGLELOFT_VERSION, "0.1.0") == 0, "version");
+    char version[32];
+    (void)std::snprintf(version, sizeof version, "%d.%d.%d", WAGGLELOFT_VERSION_MAJOR, WAGGLELOFT_VERSION_MINOR, WAGGLELOFT_VERSION_PATCH);
+    check(std::strcmp(WAGGLELOFT_VERSION, version) == 0, "version");
     check(waggleloft_sha384(none.data(), 0, digest.data(), digest.size()) == WAGGLELOFT_OK && digest[0] == 0x38, "digest of nothing");
     check(waggleloft_checksum(WAGGLELOFT_DISABLE_ATTESTATION, none.data(), 0) == UINT32_C(0xFFFFFEDB), "checksum");
     secret.fill(0x22);
@@ -50,6 +41,5 @@ int main()
     check(waggleloft_open_update_boot(image.data(), image.size(), digest.data(), digest.size(), secret.data(), secret.size(), false,
                                       work.data(), work.size(), &outcome) == WAGGLELOFT_OK && outcome == WAGGLELOFT_KEPT, "update boot");
 
-    std::printf("%u passed, %u failed\n", passed, failed);
-    return failed != 0;
+    return conclude();
 }

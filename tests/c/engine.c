@@ -8,6 +8,8 @@
  */
 #include "waggleloft.h"
 
+#include "check.h"
+
 #include <stdio.h>
 #include <stdlib.h>
 #include <string.h>
@@ -17,25 +19,12 @@
 #define DIGEST WAGGLELOFT_SHA384_BYTES
 #define LONGEST WAGGLELOFT_ANSWER_LONGEST
 
-/* Where each field of a work stands in its words: crates/waggleloft/src/flat.rt. */
+/* Where each field of a work stands in its words: docs/DECISIONS.md, "C and Rust". */
 enum { KIND_IN = 0, FIRST_IN = 1, SECOND_IN = 3, POSITION_IN = 5, LENGTH_IN = 7, REGISTER_IN = 9, JOURNEY_IN = 21, NODE_IN = 33, SECRET_IN = 67 };
 
 enum { NOTHING, DISABLING, STASH, UPDATE, COLD };
 
 static const uint64_t STORES[] = {0, 15, 53, 62, 1217};
-
-static unsigned passed;
-static unsigned failed;
-
-static void check(bool holds, const char *name)
-{
-    if (holds) {
-        passed++;
-    } else {
-        failed++;
-        printf("FAILED: %s\n", name);
-    }
-}
 
 /* ---- buffers ---- */
 
@@ -503,6 +492,5 @@ int main(void)
     free(buffer);
     free(buffer_before);
     free(none);
-    printf("%u passed, %u failed\n", passed, failed);
-    return failed != 0;
+    return conclude();
 }

@@ -1,9 +1,11 @@
 /*
- * Calls the two functions of include/waggleloft.h from C and compares what
- * they hand back with known values. Prints a line for each check that failed
+ * Calls the digest and the checksum of include/waggleloft.h from C and compares
+ * what they hand back with known values. Prints a line for each check that failed
  * and, last, 'N passed, M failed'.
  */
 #include "waggleloft.h"
+
+#include "check.h"
 
 #include <stdio.h>
 #include <stdlib.h>
@@ -17,19 +19,6 @@
 
 /* Bytes after the buffer that have to stay too. */
 #define GUARD 16
-
-static unsigned passed;
-static unsigned failed;
-
-static void check(int holds, const char *name)
-{
-    if (holds) {
-        passed++;
-    } else {
-        failed++;
-        printf("FAILED: %s\n", name);
-    }
-}
 
 /* Command codes of the mailbox. */
 static const uint32_t STASH = UINT32_C(0x4D454153);
@@ -178,6 +167,5 @@ int main(void)
     check_buffers();
     check_refusals();
     check_checksums();
-    printf("%u passed, %u failed\n", passed, failed);
-    return failed == 0 ? EXIT_SUCCESS : EXIT_FAILURE;
+    return conclude();
 }

@@ -63,14 +63,32 @@ extern "C" {
     fn waggleloft_checksum(code: u32, bytes: *const u8, bytes_len: usize) -> u32;
 }
 
+/// Calls a function of the archive: `read` and `write` pass a slice as its pointer and its length,
+/// `value` passes what it is.
+macro_rules! call {
+    ($function:ident) => { call!(@ $function ()) };
+    ($function:ident, $($arguments:tt)*) => { call!(@ $function () $($arguments)*) };
+    (@ $function:ident ($($done:expr,)*)) => {
+        // SAFETY: see above.
+        unsafe { $function($($done),*) }
+    };
+    (@ $function:ident ($($done:expr,)*) read $slice:expr $(, $($rest:tt)*)?) => {
+        call!(@ $function ($($done,)* $slice.as_ptr(), $slice.len(),) $($($rest)*)?)
+    };
+    (@ $function:ident ($($done:expr,)*) write $slice:expr $(, $($rest:tt)*)?) => {
+        call!(@ $function ($($done,)* $slice.as_mut_ptr(), $slice.len(),) $($($rest)*)?)
+    };
+    (@ $function:ident ($($done:expr,)*) value $value:expr $(, $($rest:tt)*)?) => {
+        call!(@ $function ($($done,)* $value,) $($($rest)*)?)
+    };
+}
+
 pub fn work_words() -> usize {
-    // SAFETY: no argument.
-    unsafe { waggleloft_work_words() }
+    call!(waggleloft_work_words)
 }
 
 pub fn image_words() -> usize {
-    // SAFETY: no argument.
-    unsafe { waggleloft_image_words() }
+    call!(waggleloft_image_words)
 }
 
 pub fn open_cold_boot(
@@ -80,20 +98,7 @@ pub fn open_cold_boot(
     work: &mut [u32; WORK_WORDS],
     outcome: &mut u32,
 ) -> u32 {
-    // SAFETY: see above.
-    unsafe {
-        waggleloft_open_cold_boot(
-            image.as_ptr(),
-            image.len(),
-            digest.as_ptr(),
-            digest.len(),
-            secret.as_ptr(),
-            secret.len(),
-            work.as_mut_ptr(),
-            work.len(),
-            outcome,
-        )
-    }
+    call!(waggleloft_open_cold_boot, read image, read digest, read secret, write work, value outcome)
 }
 
 pub fn open_update_boot(
@@ -104,85 +109,36 @@ pub fn open_update_boot(
     work: &mut [u32; WORK_WORDS],
     outcome: &mut u32,
 ) -> u32 {
-    // SAFETY: see above.
-    unsafe {
-        waggleloft_open_update_boot(
-            image.as_ptr(),
-            image.len(),
-            digest.as_ptr(),
-            digest.len(),
-            secret.as_ptr(),
-            secret.len(),
-            verdict,
-            work.as_mut_ptr(),
-            work.len(),
-            outcome,
-        )
-    }
+    call!(
+        waggleloft_open_update_boot,
+        read image, read digest, read secret, value verdict, write work, value outcome
+    )
 }
 
 pub fn open_request(image: &[u32], request: &Request<'_>, work: &mut [u32; WORK_WORDS]) -> u32 {
-    // SAFETY: see above.
-    unsafe {
-        waggleloft_open_request(
-            image.as_ptr(),
-            image.len(),
-            request.code,
-            request.bytes.as_ptr(),
-            request.bytes.len(),
-            request.caller,
-            request.handoff.as_ptr(),
-            request.handoff.len(),
-            request.verdict,
-            work.as_mut_ptr(),
-            work.len(),
-        )
-    }
+    call!(
+        waggleloft_open_request,
+        read image, value request.code, read request.bytes, value request.caller,
+        read request.handoff, value request.verdict, write work
+    )
 }
 
 pub fn left(work: &[u32; WORK_WORDS]) -> usize {
-    // SAFETY: see above.
-    unsafe { waggleloft_left(work.as_ptr(), work.len()) }
+    call!(waggleloft_left, read work)
 }
 
 pub fn store(work: &mut [u32; WORK_WORDS], image: &mut [u32]) -> u32 {
-    // SAFETY: see above.
-    unsafe {
-        waggleloft_store(
-            work.as_mut_ptr(),
-            work.len(),
-            image.as_mut_ptr(),
-            image.len(),
-        )
-    }
+    call!(waggleloft_store, write work, write image)
 }
 
 pub fn answer(work: &[u32; WORK_WORDS], buffer: &mut [u8], written: &mut usize) -> u32 {
-    // SAFETY: see above.
-    unsafe {
-        waggleloft_answer(
-            work.as_ptr(),
-            work.len(),
-            buffer.as_mut_ptr(),
-            buffer.len(),
-            written,
-        )
-    }
+    call!(waggleloft_answer, read work, write buffer, value written)
 }
 
 pub fn sha384(message: &[u8], buffer: &mut [u8]) -> u32 {
-    // SAFETY: see above.
-    unsafe {
-        waggleloft_sha384(
-            message.as_ptr(),
-            message.len(),
-            buffer.as_mut_ptr(),
-            buffer.len(),
-        )
-    }
+    call!(waggleloft_sha384, read message, write buffer)
 }
 
 pub fn checksum(code: u32, bytes: &[u8]) -> u32 {
-    // SAFETY: see above.
-    unsafe { waggleloft_checksum(code, bytes.as_ptr(), bytes.len()) }
+    call!(waggleloft_checksum, value code, read bytes)
 }

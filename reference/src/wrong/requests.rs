@@ -17,6 +17,12 @@ fn before(mut order: Vec<Refusal>, number: u32, other: u32) -> Vec<Refusal> {
     order
 }
 
+/// Adds a line at the end.
+fn also(mut order: Vec<Refusal>, line: Refusal) -> Vec<Refusal> {
+    order.push(line);
+    order
+}
+
 /// A handoff table with a part that is as it should be.
 fn mended(table: &[u8], at: usize, right: &[u8]) -> Vec<u8> {
     let mut table = table.to_vec();
@@ -70,28 +76,22 @@ VerdictBeforeChecksum: "a verdict of no is told before a bad checksum"
 IdentityWhenOn: "an identity key is refused with attestation off"
 [requests: Requests] {
     fn order(&self, view: &View, request: Request) -> Vec<Refusal> {
-        let mut order = Paper.order(view, request);
-        order.push((number::TABLE, request.code == IDENTITY && !view.on));
-        order
+        also(Paper.order(view, request), (number::TABLE, request.code == IDENTITY && !view.on))
     }
 }
 
 IdentityNeedsTree: "an identity key is refused when the tree is not well formed"
 [requests: Requests] {
     fn order(&self, view: &View, request: Request) -> Vec<Refusal> {
-        let mut order = Paper.order(view, request);
-        order.push((number::TABLE, request.code == IDENTITY && !view.well_formed));
-        order
+        also(Paper.order(view, request), (number::TABLE, request.code == IDENTITY && !view.well_formed))
     }
 }
 
 TableForAll: "every command looks at a handoff table that is lent"
 [requests: Requests] {
     fn order(&self, view: &View, request: Request) -> Vec<Refusal> {
-        let mut order = Paper.order(view, request);
         let lent = request.table.len() >= TABLE_BYTES;
-        order.push((number::TABLE, lent && !self.table_fine(request.table)));
-        order
+        also(Paper.order(view, request), (number::TABLE, lent && !self.table_fine(request.table)))
     }
 }
 
