@@ -10,10 +10,13 @@ use layout::IMAGE_WORDS;
 use layout::INTERNAL_FLAG;
 use layout::ROOT_MARK;
 use layout::ROOT_TYPE;
-use layout::little_endian::pack;
 use layout::refusals::WRONG_IMAGE;
 use layout::refusals::WRONG_INPUTS;
-use layout::strings::bytes_of;
+use making::Values;
+use making::new_work;
+use making::no_answer;
+use making::run::run_all;
+use nodes::node_row;
 use opening::BootStatus;
 use opening::Booted;
 use opening::Outcome;
@@ -21,13 +24,10 @@ use opening::works::boot_number;
 use opening::works::boot_ready;
 use opening::works::boot_refused;
 use sha384::digest::extend;
-use tree::row::node_row;
+use slices::little_endian::pack;
+use slices::strings::bytes_of;
 use work::Kind;
 use work::Work;
-use work::make::Values;
-use work::make::new_work;
-use work::make::no_answer;
-use work::run::run_all;
 
 fn cold_work(digest: &[u8], secret: &[u8]) -> Work
     requires { ⌜ length (now digest) ≡ 48 ⌝ }

@@ -19,26 +19,26 @@ use layout::NODE_WORDS;
 use layout::NODES_AT;
 use layout::PCR3_AT;
 use layout::REGISTER_WORDS;
-use layout::image::word;
-use layout::little_endian::pack;
 use layout::refusals::WRONG_IMAGE;
 use layout::refusals::WRONG_INPUTS;
-use layout::strings::bytes_in;
-use layout::strings::bytes_of;
+use making::Values;
+use making::bare_work;
+use making::new_work;
+use making::no_answer;
+use nodes::measurements_row;
 use opening::Booted;
 use opening::Outcome;
 use opening::works::boot_ready;
 use opening::works::boot_refused;
 use sha384::digest::extend;
+use slices::image::word;
+use slices::little_endian::pack;
+use slices::strings::bytes_in;
+use slices::strings::bytes_of;
 use tree::formed::well_formed;
 use tree::index::root_index;
-use tree::row::measurements_row;
 use work::Kind;
 use work::Work;
-use work::make::Values;
-use work::make::bare_work;
-use work::make::new_work;
-use work::make::no_answer;
 
 // The root's current measurement equals PCR3, word for word.
 fn root_matches(image: &[u32], root: usize) -> bool

@@ -15,8 +15,8 @@ use Rattle.layout.proofs.Blocks.{getD-kept}
 use Rattle.layout.proofs.Bounded.{count-first, first-lowest}
 use Rattle.tree.specs.Tree.{Place, Tree, defaultWords, nodeWith, lowestFree, wellFormed}
 use Rattle.tree.specs.Nodes.{word, treeIn}
-use Rattle.tree.specs.Record.{Node, retiredHandle, withHandle, placeOf, treeOf}
-use Rattle.tree.proofs.Rows.{row-first}
+use Rattle.nodes.specs.Record.{Node, retiredHandle, withHandle, placeOf, treeOf}
+use Rattle.nodes.proofs.Rows.{row-first}
 use Rattle.tree.proofs.WellFormed.{free-there}
 use Rattle.opening.specs.Values.{measured, childNode, rootNode}
 use Rattle.opening.specs.Tasks.{BootInputs, bootOf, Measurement, stash, coldBoot}

@@ -17,7 +17,7 @@ use Rattle.tree.specs.Nodes.{treeIn}
 use Rattle.tree.proofs.WellFormed.{free-there, holder-only}
 use Rattle.work.specs.Table.{numberOf, indexOk}
 use Rattle.work.specs.Entries.{wellShaped, leftOf}
-use Rattle.work.specs.Made.{answerIn, workWith}
+use Rattle.making.specs.Made.{answerIn, workWith}
 use Rattle.work.specs.declared.Kind.the-variants.{Stash}
 use Rattle.work.specs.declared.StashAt.{StashAt}
 use Rattle.opening.specs.Tasks.{Request, Task, noStores, stash, accepted}

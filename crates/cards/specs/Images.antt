@@ -5,7 +5,7 @@ use mathlib.Core.List.{List, [], _∷_, _++_}
 use mathlib.Core.Option.{some}
 use lib.ListN.{set, replicate}
 use Rattle.layout.specs.Words.{bytes4, zeros}
-use Rattle.tree.specs.Record.{Node}
+use Rattle.nodes.specs.Record.{Node}
 use Rattle.opening.specs.Values.{childNode}
 use Rattle.opening.specs.Tasks.{Request, requestOf, bootOf, Measurement, Task, stash, coldBoot}
 use Rattle.history.specs.Ledger.{Contents, stateOf, imageOf}

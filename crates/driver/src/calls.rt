@@ -11,8 +11,6 @@ use crate::output::put_opening;
 use crate::output::put32;
 use crate::state::Progress;
 use crate::state::stopped;
-use layout::little_endian::byte;
-use layout::little_endian::read32;
 use machine::ANSWER;
 use machine::InHand;
 use machine::Made;
@@ -22,6 +20,8 @@ use machine::Report;
 use machine::STORE;
 use machine::UPDATE_BOOT;
 use machine::make;
+use slices::little_endian::byte;
+use slices::little_endian::read32;
 
 // The bytes of ROM's verdict: only an update boot has one.
 fn verdict_length(op: u8) -> usize

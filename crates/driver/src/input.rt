@@ -1,7 +1,7 @@
 // Reading an operation's arguments.
 ghost use Prim.Native.Nat.{_+_, _*_, _<_, _≤_};
-use layout::little_endian::byte;
-use layout::little_endian::read32;
+use slices::little_endian::byte;
+use slices::little_endian::read32;
 
 // A byte string's length, two bytes.
 pub(crate) fn string_length(input: &[u8], at: usize) -> usize

@@ -4,10 +4,10 @@ ghost use Prim.Native.Nat.{_*_, _≤_};
 ghost use lib.ListN.{length};
 ghost use Rattle.driver.specs.Run.{memoryWords};
 use crate::state::MEMORY_WORDS;
-use layout::little_endian::four;
 use libc::STDOUT_FILENO;
 use machine::Report;
 use opening::works::outcome_number;
+use slices::little_endian::four;
 
 // What is written for a number of the work in hand where there is none.
 pub const NO_WORK: u32 = 0xFFFFFFFF;

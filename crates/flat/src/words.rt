@@ -11,8 +11,8 @@ ghost use Rattle.flat.specs.Flat.{AllBytes, PartsLong, workSize, answerW
 use layout::ANSWER_MAX;
 use layout::NODE_WORDS;
 use layout::REGISTER_WORDS;
-use layout::image::word;
-use layout::little_endian::read32;
+use slices::image::word;
+use slices::little_endian::read32;
 use work::Kind;
 use work::StashAt;
 use work::Work;

@@ -14,12 +14,13 @@ use Rattle.layout.specs.Words.{words48, part}
 use Rattle.layout.specs.Refusals as number
 use Rattle.layout.proofs.Cases.{and-right}
 use Rattle.work.specs.Table.{put, numberOf, indexOk, putOf}
-use Rattle.work.specs.Entries.{wellShaped, leftOf, allStores}
-use Rattle.work.specs.Made.{workWith}
+use Rattle.work.specs.Entries.{wellShaped, leftOf}
+use Rattle.making.specs.Run.{allStores}
+use Rattle.making.specs.Made.{workWith}
 use Rattle.work.specs.declared.Put.{Put}
 use Rattle.work.specs.declared.Work.{Work}
 use Rattle.work.proofs.Plans.{length-apply, put-plan}
-use Rattle.work.proofs.After.{store-made, store-refused, all-made}
+use Rattle.making.proofs.After.{store-made, store-refused, all-made}
 use Rattle.opening.specs.Tasks.{BootInputs, Task, coldBoot, Ruling, refused, accepted}
 use Rattle.opening.specs.Rules.{inputsOk}
 use Rattle.opening.specs.Works.{workAt}

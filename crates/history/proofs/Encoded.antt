@@ -20,8 +20,8 @@ use Rattle.layout.proofs.Packing.{bytes-words}
 use Rattle.sha384.proofs.Sizes.{Bytes}
 use Rattle.tree.specs.Tree.{freePlace}
 use Rattle.tree.specs.Nodes.{word, used, parent, allZero, placeIn, treeIn, cumulativeIn}
-use Rattle.tree.specs.Record.{Node, handleRow, placeRow, placeOf}
-use Rattle.tree.proofs.Rows.{length-handle, length48, length-row, row-first, row-handle, row-flags, row-current, row-cumulative, row-type, row-locality}
+use Rattle.nodes.specs.Record.{Node, handleRow, placeRow, placeOf}
+use Rattle.nodes.proofs.Rows.{length-handle, length48, length-row, row-first, row-handle, row-flags, row-current, row-cumulative, row-type, row-locality}
 use Rattle.opening.specs.Works.{registerIn}
 use Rattle.history.specs.Ledger.{Chain, Contents, treeAt, registerRows, nodeRows, imageOf}
 

@@ -22,10 +22,10 @@ use Rattle.sha384.specs.Entries.{extended}
 use Rattle.sha384.proofs.Sizes.{Bytes, length-extended, bytes-extended}
 use Rattle.tree.specs.Nodes.{word, treeIn, cumulativeIn}
 use Rattle.tree.specs.Tree.{Place, Tree, defaultWords, sameHandle, isRoot, rootOk, wellFormed, rootIn, nodeWith, lowestFree}
-use Rattle.tree.specs.Record.{Node, defaultHandle, retiredHandle, handleRow, withHandle, placeOf, treeOf}
+use Rattle.nodes.specs.Record.{Node, defaultHandle, retiredHandle, handleRow, withHandle, placeOf, treeOf}
 use Rattle.tree.proofs.Ways.{leads-root}
 use Rattle.tree.proofs.Rooted.{placed, placed-same, placed-other, root-used}
-use Rattle.tree.proofs.Rows.{default-row, retired-row}
+use Rattle.nodes.proofs.Rows.{default-row, retired-row}
 use Rattle.tree.proofs.WellFormed.{Formed, same-refl, rehandled, stashed, formed-true, formed-stashed, top-found, holder-found, free-there}
 use Rattle.opening.specs.Values.{measured, childNode, rootNode}
 use Rattle.opening.specs.Tasks.{BootInputs, Measurement, stash, update, coldBoot}

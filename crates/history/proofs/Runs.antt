@@ -15,10 +15,10 @@ use Rattle.layout.proofs.Tab.{length-zeros, getD-zeros}
 use Rattle.sha384.specs.Entries.{extended}
 use Rattle.tree.specs.Nodes.{treeIn, cumulativeIn}
 use Rattle.tree.specs.Tree.{defaultWords, rootIn, nodeWith, lowestFree}
-use Rattle.tree.specs.Record.{Node, retiredHandle, nodeRow, placeRow, measurementsRow, withHandle, withCurrent, withCumulative}
-use Rattle.tree.proofs.Rows.{length48, length-row, store-handle, store-current, store-cumulative, retired-row, raw-current, raw-cumulative}
+use Rattle.nodes.specs.Record.{Node, retiredHandle, nodeRow, placeRow, measurementsRow, withHandle, withCurrent, withCumulative}
+use Rattle.nodes.proofs.Rows.{length48, length-row, store-handle, store-current, store-cumulative, retired-row, raw-current, raw-cumulative}
 use Rattle.work.specs.Table.{put, Run, one, fill, copy, stashRuns, disablingRuns, updateRuns, coldRuns, runsOf, numberOf}
-use Rattle.work.specs.Made.{workWith}
+use Rattle.making.specs.Made.{workWith}
 use Rattle.work.specs.declared.Put.{Put}
 use Rattle.work.proofs.Plans.{apply, storesIn, EveryRun, every-stores, every-at, plan, length-plan, run-one, run-zeros, run-fill, run-copy, run-part}
 use Rattle.opening.specs.Values.{measured, childNode, rootNode}

@@ -18,12 +18,12 @@ use Rattle.layout.specs.Words.{zeros}
 use Rattle.layout.specs.Refusals as number
 use Rattle.work.specs.Table.{put, runsOf, numberOf, indexOk, putOf}
 use Rattle.work.specs.Entries.{wellShaped, finished, leftOf, moved, answerNumber, answerResult, answerBuffer}
-use Rattle.work.specs.Made.{workWith}
+use Rattle.making.specs.Made.{workWith}
 use Rattle.work.specs.declared.Put.{Put}
 use Rattle.work.specs.declared.Work.{Work}
 use Rattle.work.specs.declared.Stored.{Stored}
 use Rattle.work.proofs.Plans.{apply, length-apply, plan, put-plan, one-more, mark-mid}
-use Rattle.work.proofs.After.{store-made, store-refused}
+use Rattle.making.proofs.After.{store-made, store-refused}
 use Rattle.opening.specs.Tasks.{Request, BootInputs, Task, Ruling, refused, accepted}
 use Rattle.opening.specs.Rules.{bootRules, bootRuling, updateTask}
 use Rattle.opening.specs.Works.{factsOf, workAt}

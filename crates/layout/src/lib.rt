@@ -1,12 +1,9 @@
-// Where each field of the memory image stands, words of an image, and byte strings as words.
+// Where each field of the memory image stands, and the numbers handed back.
 //
 // The number of nodes and the words of a node are named here and in specs/Sizes.antt. As numerals
 // they stand again only in specs/Figures.antt and on the bench cards, on which no law rests.
 pub mod geometry;
-pub mod image;
-pub mod little_endian;
 pub mod refusals;
-pub mod strings;
 
 pub const REGISTERS: usize = 32;
 

@@ -10,8 +10,8 @@ use Rattle.layout.specs.Below.{allBelow}
 use Rattle.layout.specs.Refusals.{wrongImage}
 use Rattle.tree.specs.Tree.{wellFormed, rootIn}
 use Rattle.tree.specs.Nodes.{word, treeIn}
-use Rattle.work.specs.Entries.{allStores}
-use Rattle.work.specs.Made.{refusedWork}
+use Rattle.making.specs.Run.{allStores}
+use Rattle.making.specs.Made.{refusedWork}
 use Rattle.work.specs.declared.Work.{Work}
 use Rattle.opening.specs.Tasks.{Request, BootInputs, coldBoot, Ruling, refused, accepted, View}
 use Rattle.opening.specs.Rules.{Rule, refuses, requestRules, requestRuling, bootRules, bootRuling, updateTask}

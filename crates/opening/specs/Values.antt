@@ -4,7 +4,7 @@ use mathlib.Core.List.{List}
 use Rattle.layout.specs.Sizes.{rootMark, internalFlag, rootType}
 use Rattle.layout.specs.Words.{zeros}
 use Rattle.sha384.specs.Entries.{extended}
-use Rattle.tree.specs.Record.{Node, newNode}
+use Rattle.nodes.specs.Record.{Node, newNode}
 use Rattle.opening.specs.Tasks.{Measurement}
 
 -- "48 zero bytes extended by" a digest

@@ -8,12 +8,12 @@ use Rattle.layout.specs.Words.{words48, bytes48, part, zeros}
 use Rattle.sha384.specs.Entries.{extended}
 use Rattle.tree.specs.Tree.{Tree, defaultWords, rootIn, nodeWith, lowestFree}
 use Rattle.tree.specs.Nodes.{treeIn, cumulativeIn}
-use Rattle.tree.specs.Record.{nodeRow, measurementsRow}
-use Rattle.work.specs.Made.{noValues, workWith}
+use Rattle.nodes.specs.Record.{nodeRow, measurementsRow}
+use Rattle.making.specs.Made.{noValues, workWith}
 use Rattle.work.specs.declared.Kind.{Kind}
 use Rattle.work.specs.declared.Kind.the-variants.{Nothing, Disabling, Stash, Update, ColdBoot}
 use Rattle.work.specs.declared.Work.{Work}
-use Rattle.work.specs.declared.make.Values.{Values}
+use Rattle.making.specs.declared.Values.{Values}
 use Rattle.opening.specs.Values.{measured, childNode, rootNode}
 use Rattle.opening.specs.Tasks.{BootInputs, Measurement, Task, noStores, keptBoot, disableCommand, disablingBoot, stash, update, coldBoot}
 use Rattle.opening.specs.declared.Outcome.{Outcome}

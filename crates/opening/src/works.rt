@@ -1,14 +1,14 @@
 // The answers of openings, and their numbers.
 ghost use mathlib.Core.Path.{_≡_};
-ghost use Rattle.work.specs.Made.{refusedWork};
+ghost use Rattle.making.specs.Made.{refusedWork};
 ghost use Rattle.opening.specs.Openings.{statusNumber, bootNumber, outcomeNumber};
 use crate::BootStatus;
 use crate::Booted;
 use crate::Opened;
 use crate::Outcome;
 use crate::Status;
+use making::refused_work;
 use work::Work;
-use work::make::refused_work;
 
 pub fn ready(work: Work) -> Opened
     ensures { λ r. ⌜ r ≡ record { work = work; status = Status.Ready } ⌝ }

@@ -10,7 +10,7 @@ use borrow.Author.Tests.{eqb-true, eq-eqb}
 use Rattle.layout.specs.Sizes.{imageWords, markAt}
 use Rattle.layout.specs.Refusals as number
 use Rattle.layout.proofs.Cases.{and-left}
-use Rattle.work.specs.Made.{refusedWork}
+use Rattle.making.specs.Made.{refusedWork}
 use Rattle.opening.specs.Tasks.{Request, Ruling, refused}
 use Rattle.opening.specs.Rules.{wrongChecksum, handoffOk, Command, commandOf, decide, declined, served, commandRuling}
 use Rattle.opening.specs.Openings.{openedOf, viewIn, openRequest}

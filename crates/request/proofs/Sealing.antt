@@ -9,8 +9,8 @@ use borrow.Rule.Slice.PartMut.{midOf, putMid}
 use Rattle.layout.specs.Sizes.{answerMax}
 use Rattle.layout.specs.Words.{bytes4, zeros}
 use Rattle.message.specs.Checksum.{checksumOf}
-use Rattle.work.specs.Made.{answerIn}
-use Rattle.work.specs.declared.make.Answer.{Answer}
+use Rattle.making.specs.Made.{answerIn}
+use Rattle.making.specs.declared.Answer.{Answer}
 use Rattle.opening.specs.Rules.{answerOf}
 
 abbrev zs : ℕ → List ℕ

@@ -3,15 +3,15 @@ ghost use mathlib.Core.Path.{_≡_};
 ghost use Prim.Native.Nat.{_+_, _≤_};
 ghost use lib.ListN.{length};
 ghost use Rattle.layout.specs.Sizes.{answerMax};
-ghost use Rattle.work.specs.Made.{answerIn, plainWork};
+ghost use Rattle.making.specs.Made.{answerIn, plainWork};
 ghost use Rattle.opening.specs.Rules.{answerOf};
 use layout::ANSWER_MAX;
-use layout::little_endian::four;
+use making::Answer;
+use making::new_work;
+use making::no_values;
+use slices::little_endian::four;
 use work::Kind;
 use work::Work;
-use work::make::Answer;
-use work::make::new_work;
-use work::make::no_values;
 
 pub(crate) fn sealed(code: u32, rest: &[u8]) -> Answer
     requires { ⌜ length (now rest) + 8 ≤ answerMax ⌝ }

@@ -6,14 +6,14 @@ ghost use Rattle.opening.specs.Rules.{handoffOk, identityKey, identityCode};
 ghost use Rattle.request.specs.Screen.{commandOpened};
 use crate::answer::plain_work;
 use crate::screen::screen;
-use layout::little_endian::read16;
-use layout::little_endian::read32;
 use layout::refusals::WRONG_TABLE;
 use opening::Opened;
 use opening::Status;
 use opening::commands::IDENTITY_CODE;
 use opening::works::ready;
 use opening::works::refused;
+use slices::little_endian::read16;
+use slices::little_endian::read32;
 use work::Kind;
 
 // The handoff table: its bytes, its marker, its major version, and where the key is.

@@ -4,10 +4,10 @@ ghost use Prim.Native.Nat.{_≤_};
 ghost use lib.ListN.{length};
 ghost use Rattle.opening.specs.Rules.{wrongChecksum};
 ghost use Rattle.request.specs.Screen.{screenOf};
-use layout::little_endian::read32;
 use layout::refusals::BAD_CHECKSUM;
 use layout::refusals::WRONG_LENGTH;
 use opening::Status;
+use slices::little_endian::read32;
 
 fn bad_checksum(code: u32, bytes: &[u8]) -> bool
     requires { ⌜ 4 ≤ length (now bytes) ⌝ }

@@ -7,7 +7,7 @@ use Rattle.layout.specs.Sizes.{imageWords}
 use Rattle.layout.specs.Words.{zeros}
 use Rattle.layout.proofs.Tab.{length-zeros}
 use Rattle.work.specs.declared.Work.{Work}
-use Rattle.work.proofs.After.{all-length}
+use Rattle.making.proofs.After.{all-length}
 use Rattle.opening.specs.Tasks.{bootOf}
 use Rattle.opening.specs.Openings.{openColdBoot, storedBy, coldBooted}
 use Rattle.opening.specs.declared.BootStatus.{BootStatus}

@@ -19,7 +19,7 @@ use Rattle.opening.specs.declared.Status.{Status}
 use Rattle.opening.specs.declared.Status.the-variants as status
 use Rattle.respond.specs.declared.Response.{Response}
 use Rattle.respond.specs.Program.{responseMax, responseOf, answerBytes, written}
-use Rattle.work.proofs.After.{SameAnswer}
+use Rattle.making.proofs.After.{SameAnswer}
 
 -- what `with_result` hands back
 abbrev pub responseWith : ℕ → ℕ → List ℕ → Response

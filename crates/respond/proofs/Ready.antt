@@ -14,9 +14,10 @@ use Rattle.tree.specs.Nodes.{treeIn}
 use Rattle.tree.proofs.WellFormed.{holder-only}
 use Rattle.work.specs.declared.Work.{Work}
 use Rattle.work.specs.Table.{numberOf, indexOk}
-use Rattle.work.specs.Entries.{wellShaped, finished, allStores}
-use Rattle.work.specs.Made.{workWith}
-use Rattle.work.proofs.After.{all-finished}
+use Rattle.work.specs.Entries.{wellShaped, finished}
+use Rattle.making.specs.Run.{allStores}
+use Rattle.making.specs.Made.{workWith}
+use Rattle.making.proofs.After.{all-finished}
 use Rattle.opening.specs.Tasks.{Request, noStores, disableCommand, stash, Measurement, Ruling, refused, accepted}
 use Rattle.opening.specs.Rules.{decline, Command, stashMeasurement, commandOf, declined, served, requestRules, requestRuling}
 use Rattle.opening.specs.Works.{workAt}

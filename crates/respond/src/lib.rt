@@ -11,10 +11,10 @@ ghost use Rattle.respond.specs.Program.{outputOf, programOutput, respons
 use crate::run::cold_image;
 use crate::run::open;
 use layout::ANSWER_MAX;
-use layout::little_endian::four;
+use making::run::run_all;
 use opening::Status;
 use opening::works::number_of;
-use work::run::run_all;
+use slices::little_endian::four;
 
 // The bytes of an input that are used.
 pub const INPUT_MAX: usize = 65000;

@@ -4,9 +4,9 @@ ghost use Rattle.opening.specs.Openings.{openRequest};
 ghost use Rattle.respond.specs.Program.{coldImage, requestIn};
 use boot::cold::boot_cold;
 use layout::IMAGE_WORDS;
-use layout::little_endian::read32;
 use opening::Opened;
 use request::open::open_request;
+use slices::little_endian::read32;
 
 // The image after the program's cold boot.
 pub(crate) fn cold_image() -> [u32; IMAGE_WORDS]

@@ -4,4 +4,3 @@ pub mod Ways
 pub mod Rooted
 pub mod WellFormed
 pub mod Cycles
-pub mod Rows

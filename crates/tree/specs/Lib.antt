@@ -1,5 +1,4 @@
--- The measurement nodes: as a tree, in an image, and as records.
+-- The measurement nodes: as a tree, and in an image.
 pub mod Tree
 pub mod Nodes
-pub mod Record
 pub mod Kinds

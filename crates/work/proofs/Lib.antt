@@ -4,5 +4,4 @@ pub mod Shape
 pub mod Parts
 pub mod Numbered
 pub mod Plans
-pub mod After
 pub mod Figures

@@ -1,6 +1,6 @@
 -- What the entries over a work answer: stores left, one store, the answer (document 01, "Work, one word at a time" and "Numbers handed back").
 -- Each is defined for every work value and every image. Assumes nothing.
-use Prim.Native.Nat.{ℕ, zero, suc, _+_, _-_}
+use Prim.Native.Nat.{ℕ, _+_, _-_}
 use mathlib.Core.Bool.{Bool, cond, not, _&&_}
 use mathlib.Core.List.{List}
 use lib.ListN.{length, set}
@@ -57,19 +57,3 @@ answerResult w buffer = record { number = answerNumber w (length buffer); writte
 -- the buffer afterwards: the answer, and "bytes past the answer stay"; refused, every byte stays
 unfoldable pub answerBuffer : Work → List ℕ → List ℕ
 answerBuffer w buffer = cond (eqb (answerNumber w (length buffer)) 0) (paste buffer 0 (w .answer) (w .«answer_len»)) buffer
-
--- ---- all stores of a work, each by the store entry
-
--- a work and an image
-pub record After : Type 0 where
-  pub work : Work
-  pub image : List ℕ
-
--- after n stores
-abbrev pub afterStores : ℕ → Work → List ℕ → After
-afterStores zero w image = record { work = w; image = image }
-afterStores (suc n) w image = afterStores n (storeResult w image .work) (storeImage w image)
-
--- after all that are left
-unfoldable pub allStores : Work → List ℕ → After
-allStores w image = afterStores (leftOf w) w image

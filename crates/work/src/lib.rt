@@ -1,8 +1,6 @@
 // A piece of work: what it will store, how far it is, and its prepared answer.
 pub mod lent;
-pub mod make;
 mod puts;
-pub mod run;
 
 ghost use mathlib.Core.Path.{_≡_};
 ghost use mathlib.Core.Bool.{cond};

@@ -12,7 +12,7 @@ use Rattle.work.specs.declared.Answered.{Answered}
 use Rattle.opening.specs.Openings.{openRequest}
 use Rattle.opening.specs.declared.Opened.{Opened}
 use Rattle.respond.specs.Program.{responseMax, requestIn, written, outputOf, responseOf}
-use Rattle.work.proofs.After.{SameAnswer, all-answer}
+use Rattle.making.proofs.After.{SameAnswer, all-answer}
 use Rattle.respond.proofs.Cold.{cold-length}
 use Rattle.respond.proofs.Ready.{ready-finished}
 use Rattle.respond.proofs.Output.{responseWith, refused-output, fits, taken, answered-output, ready-written}

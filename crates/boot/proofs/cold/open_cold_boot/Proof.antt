@@ -3,7 +3,7 @@ use lib.ListN.{length}
 use borrow.Author.Tests.{eq-eqb, ne-eqb}
 use Rattle.layout.specs.Sizes.{imageWords}
 use Rattle.layout.proofs.Cases.{told-no, told-yes}
-use Rattle.work.specs.Made.{workWith}
+use Rattle.making.specs.Made.{workWith}
 use Rattle.opening.specs.Tasks.{bootOf}
 use Rattle.opening.specs.Works.{workAt}
 use Rattle.opening.specs.Openings.{openColdBoot}

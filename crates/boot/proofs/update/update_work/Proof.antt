@@ -4,7 +4,7 @@ use mathlib.Core.Path.{_≡_, _∙_}
 use lib.Seq.{take-all}
 use Rattle.layout.specs.Words.{zeros, part}
 use Rattle.layout.proofs.Packing.{part-within}
-use Rattle.work.specs.Made.{workWith}
+use Rattle.making.specs.Made.{workWith}
 use Rattle.opening.specs.Works.{registerIn, workAt}
 use borrow.Author.Needs.{needs}
 use Rattle.boot.proofs.update.update_work.Statement.{statement}

@@ -1,5 +1,5 @@
 -- The callees, put together.
-use Rattle.work.specs.Made.{workWith}
+use Rattle.making.specs.Made.{workWith}
 use borrow.Author.Needs.{needs}
 use Rattle.request.proofs.answer.plain_work.Statement.{statement}
 use Rattle.request.proofs.answer.plain_work.Tie as tie

@@ -2,7 +2,7 @@
 use native.Mathlib.Omega.{arith}
 use Rattle.layout.specs.Words.{zeros}
 use Rattle.layout.proofs.Packing.{part-within}
-use Rattle.work.specs.Made.{workWith}
+use Rattle.making.specs.Made.{workWith}
 use Rattle.opening.specs.Works.{registerIn, workAt}
 use borrow.Author.Needs.{needs}
 use Rattle.request.proofs.stash.stash_work.Statement.{statement}

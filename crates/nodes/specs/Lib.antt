@@ -1,0 +1,2 @@
+-- A measurement node as a record, and as words.
+pub mod Record

@@ -1,0 +1,18 @@
+-- The words, and their bytes.
+use mathlib.Core.Path.{ap, _∙_}
+use Rattle.layout.specs.Words.{bytes48}
+use borrow.Author.Needs.{needs}
+use Rattle.slices.proofs.strings.bytes_in.Statement.{statement}
+use Rattle.slices.proofs.strings.bytes_in.Tie as tie
+
+part12-requires : tie.Need-part12-requires
+part12-requires c κs = search needs
+
+unpack-requires : tie.Need-unpack-requires
+unpack-requires c κs = search needs
+
+returns : tie.Need-returns
+returns c = c .unpack .ensures ∙ ap bytes48 (c .before .part12 .ensures)
+
+pub bytes-in-spec : {M : Type 1} → statement M
+bytes-in-spec = tie.close (tie.spec part12-requires unpack-requires returns)
