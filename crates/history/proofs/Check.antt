@@ -16,7 +16,7 @@ use Rattle.opening.specs.Tasks.{BootInputs, bootOf, Task}
 use Rattle.opening.specs.Rules.{inputsOk}
 use Rattle.opening.specs.Openings.{openColdBoot, bootNumber}
 use Rattle.history.specs.Calls.{Call, updateBoot, store, powerCut, Hand, Machine, Step, step, run}
-use Rattle.history.specs.Ledger.{Job, Ledger, letGo, ledgerStep, ledgerRun, firstLedger}
+use Rattle.history.specs.Ledger.{Job, Ledger, letGo, ledgerStep, firstLedger}
 use Rattle.history.specs.Demand.{Shut, wasAccepted, bootEnded, endsBoot, afterColdBoot}
 use Rattle.history.proofs.Ground.{isBoot}
 use Rattle.history.proofs.Sim.{Inv, empty, done, going, Together, carried-left, sim, sim-run}
@@ -61,32 +61,32 @@ pub torn-calls : List Call
 torn-calls = updateBoot inputs true ∷ store ∷ powerCut ∷ updateBoot inputs true ∷ replicate (numberOf Disabling - 1) store
 
 module _ (before : List ℕ) (e : length before ≡ imageWords) where
-  ends : (calls : List Call) (c : Call) → ledgerEnds (ledgerStep (ledgerRun (firstLedger inputs) calls) c) ≡ true
-      → endsBoot (step (run (afterColdBoot before inputs) calls) c) ≡ true
+  ends : (calls : List Call) (c : Call) → ledgerEnds (ledgerStep (run ledgerStep (firstLedger inputs) calls) c) ≡ true
+      → endsBoot (step (run step (afterColdBoot before inputs) calls) c) ≡ true
   ends calls c q =
-      ends-same (step (run (afterColdBoot before inputs) calls) c) (ledgerStep (ledgerRun (firstLedger inputs) calls) c)
-      (sim (run (afterColdBoot before inputs) calls) (ledgerRun (firstLedger inputs) calls) c
+      ends-same (step (run step (afterColdBoot before inputs) calls) c) (ledgerStep (run ledgerStep (firstLedger inputs) calls) c)
+      (sim (run step (afterColdBoot before inputs) calls) (run ledgerStep (firstLedger inputs) calls) c
       (sim-run calls (afterColdBoot before inputs) (firstLedger inputs) (cold-start before inputs (cold-opens before e))))
       ∙ q
 
   -- a boot that is kept ends at its opening
-  pub kept-ends : endsBoot (step (run (afterColdBoot before inputs) []) (updateBoot inputs false)) ≡ true
+  pub kept-ends : endsBoot (step (run step (afterColdBoot before inputs) []) (updateBoot inputs false)) ≡ true
   unfolding ledgerStep letGo inputsOk allBelow inputs numberOf
   kept-ends = ends [] (updateBoot inputs false) refl
 
-  pub whole-ends : endsBoot (step (run (afterColdBoot before inputs) whole-calls) store) ≡ true
+  pub whole-ends : endsBoot (step (run step (afterColdBoot before inputs) whole-calls) store) ≡ true
   unfolding ledgerStep letGo inputsOk allBelow inputs whole-calls numberOf
   whole-ends = ends whole-calls store refl
 
-  pub torn-ends : endsBoot (step (run (afterColdBoot before inputs) torn-calls) store) ≡ true
+  pub torn-ends : endsBoot (step (run step (afterColdBoot before inputs) torn-calls) store) ≡ true
   unfolding ledgerStep letGo inputsOk allBelow inputs torn-calls numberOf
   torn-ends = ends torn-calls store refl
 
   -- what demand 3 says there: attestation is on after the one, and shut for good after the other
-  pub whole-on : getD (step (run (afterColdBoot before inputs) whole-calls) store .state .image) attestationAt 0 ≡ 1
+  pub whole-on : getD (step (run step (afterColdBoot before inputs) whole-calls) store .state .image) attestationAt 0 ≡ 1
   unfolding ledgerStep letGo inputsOk allBelow inputs whole-calls numberOf
   whole-on = demand3 before inputs (cold-opens before e) whole-calls .kept store whole-ends .on refl .1 refl
 
-  pub torn-shut : (later : List Call) → Shut (run (step (run (afterColdBoot before inputs) torn-calls) store .state) later .image)
+  pub torn-shut : (later : List Call) → Shut (run step (step (run step (afterColdBoot before inputs) torn-calls) store .state) later .image)
   unfolding ledgerStep letGo inputsOk allBelow inputs torn-calls numberOf
   torn-shut later = demand3 before inputs (cold-opens before e) torn-calls .shut store torn-ends refl later

@@ -30,7 +30,7 @@ use Rattle.opening.specs.declared.Status.the-variants as status
 use Rattle.opening.specs.declared.BootStatus.{BootStatus}
 use Rattle.opening.specs.declared.BootStatus.the-variants as bootStatus
 use Rattle.history.specs.Calls.{Call, request, updateBoot, store, answer, powerCut, refusal, stored, Hand, Machine, Step, afterRequest, afterBoot, afterStore, step, run, results}
-use Rattle.history.specs.Ledger.{Contents, treeAt, Job, Ledger, blank, next, stateOf, registerRows, nodeRows, imageOf, any, disables, isDisableCommand, tears, viewOf, letGo, ledgerRequest, ledgerBoot, updateRuling, ledgerStore, ledgerStep, ledgerRun, ledgerResults, firstLedger}
+use Rattle.history.specs.Ledger.{Contents, treeAt, Job, Ledger, blank, next, stateOf, registerRows, nodeRows, imageOf, any, disables, isDisableCommand, tears, viewOf, letGo, ledgerRequest, ledgerBoot, updateRuling, ledgerStore, ledgerStep, firstLedger}
 use Rattle.history.specs.Demand.{Shut, wasAccepted, bootEnded, endsBoot, AsCounted, Kept, isUnderWay, Holds, afterColdBoot, Demand3}
 use Rattle.history.proofs.Encoded.{mark-read, attestation-read, secret-read}
 use Rattle.history.proofs.Good.{Good, good-cold}
@@ -185,7 +185,7 @@ torn-stays b store q = torn-store b (b .hand) q
 torn-stays b (answer a) q = q
 torn-stays b powerCut q = rw q
 
-shut-run : (cs : List Call) (m : Machine) (b : Ledger) → Related m b → b .torn ≡ true → Shut (m .image) → Shut (run m cs .image)
+shut-run : (cs : List Call) (m : Machine) (b : Ledger) → Related m b → b .torn ≡ true → Shut (m .image) → Shut (run step m cs .image)
 shut-run [] m b i q s = s
 shut-run (c ∷ cs) m b i q s =
     shut-run cs (step m c .state) (ledgerStep b c .state) (sim m b c i .related) (torn-stays b c q) (shut-step m b c i q s)
@@ -233,7 +233,7 @@ cold-start before x e =
 
 -- ---- demand 3
 
-same-results : (cs : List Call) (m : Machine) (b : Ledger) → Related m b → results m cs ≡ ledgerResults b cs
+same-results : (cs : List Call) (m : Machine) (b : Ledger) → Related m b → results step m cs ≡ results ledgerStep b cs
 same-results [] m b i = refl
 same-results (c ∷ cs) m b i = λ j. sim m b c i .result j ∷ same-results cs (step m c .state) (ledgerStep b c .state) (sim m b c i .related) j
 
@@ -250,13 +250,13 @@ holds : (m : Machine) (b : Ledger) → Related m b → (calls : List Call) → H
 holds m b start calls =
     record {
       results = same-results calls m b start;
-      counted = at-rest (run m calls) (ledgerRun b calls) now;
-      kept = λ c x. kept-end (run m calls) (ledgerRun b calls) c now x;
-      shut = λ c x q later. shut-run later (step (run m calls) c .state) (ledgerStep (ledgerRun b calls) c .state)
-          (sim (run m calls) (ledgerRun b calls) c now .related) q (kept-end (run m calls) (ledgerRun b calls) c now x .torn q);
+      counted = at-rest (run step m calls) (run ledgerStep b calls) now;
+      kept = λ c x. kept-end (run step m calls) (run ledgerStep b calls) c now x;
+      shut = λ c x q later. shut-run later (step (run step m calls) c .state) (ledgerStep (run ledgerStep b calls) c .state)
+          (sim (run step m calls) (run ledgerStep b calls) c now .related) q (kept-end (run step m calls) (run ledgerStep b calls) c now x .torn q);
     }
   where
-    now : Related (run m calls) (ledgerRun b calls)
+    now : Related (run step m calls) (run ledgerStep b calls)
     now = sim-run calls m b start
 
 pub demand3 : Demand3

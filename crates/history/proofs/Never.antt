@@ -16,7 +16,7 @@ use Rattle.opening.specs.Tasks.{Request, BootInputs, Task, Ruling, refused, acc
 use Rattle.opening.specs.Rules.{Verdict, refuse, decline, Rule, judged, decide, Command, commandOf, declined, served, requestRules, inputsOk, updateTask}
 use Rattle.opening.specs.Openings.{openColdBoot, bootNumber}
 use Rattle.history.specs.Calls.{Call, request, updateBoot, store, answer, powerCut, Result, refusal, opened, booted, stored, answered, noWork, cutOff, Machine, Step, step, run}
-use Rattle.history.specs.Ledger.{Job, Ledger, stateOf, isOff, letGo, viewOf, ledgerRequest, ledgerBoot, updateRuling, ledgerStore, ledgerAnswer, ledgerStep, ledgerRun, firstLedger}
+use Rattle.history.specs.Ledger.{Job, Ledger, stateOf, isOff, letGo, viewOf, ledgerRequest, ledgerBoot, updateRuling, ledgerStore, ledgerAnswer, ledgerStep, firstLedger}
 use Rattle.history.specs.Demand.{afterColdBoot}
 use Rattle.history.proofs.Good.{formed-good}
 use Rattle.history.proofs.Ground.{Ground, sound, locked, broken, ruling}
@@ -122,14 +122,14 @@ ledger-result m b powerCut i = λ e. omega arith
 
 -- whatever the list, its last call is not refused with 11
 pub never-11 : (before : List ℕ) (x : BootInputs) → bootNumber (openColdBoot before x .status) ≡ 0
-    → (calls : List Call) (c : Call) → step (run (afterColdBoot before x) calls) c .result ≢ refusal notWellFormed
+    → (calls : List Call) (c : Call) → step (run step (afterColdBoot before x) calls) c .result ≢ refusal notWellFormed
 never-11 before x e calls c z = ledger-result m b c i (ap refusalOf (sym (sim m b c i .result) ∙ z))
   where
     m : Machine
-    m = run (afterColdBoot before x) calls
+    m = run step (afterColdBoot before x) calls
 
     b : Ledger
-    b = ledgerRun (firstLedger x) calls
+    b = run ledgerStep (firstLedger x) calls
 
     i : Related m b
     i = sim-run calls (afterColdBoot before x) (firstLedger x) (cold-start before x e)

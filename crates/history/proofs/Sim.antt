@@ -29,7 +29,7 @@ use Rattle.opening.specs.Rules.{bootRules, bootRuling, updateTask}
 use Rattle.opening.specs.Works.{factsOf, workAt}
 use Rattle.opening.specs.Openings.{openedOf, bootedOf, viewIn, openRequest, intact, openUpdateBoot, outcomeOf, outcomeNumber}
 use Rattle.history.specs.Calls.{Call, request, updateBoot, store, answer, powerCut, kindName, Result, refusal, opened, booted, stored, answered, Hand, Machine, Step, afterRequest, afterBoot, afterStore, answerTaken, step, run}
-use Rattle.history.specs.Ledger.{treeAt, stateOf, Job, jobAt, Ledger, viewOf, tears, letGo, ledgerRequest, ledgerBoot, updateRuling, ledgerStore, ledgerAnswer, ledgerStep, ledgerRun}
+use Rattle.history.specs.Ledger.{treeAt, stateOf, Job, jobAt, Ledger, viewOf, tears, letGo, ledgerRequest, ledgerBoot, updateRuling, ledgerStore, ledgerAnswer, ledgerStep}
 use Rattle.history.proofs.Runs.{planAt, plan-answer, length-at}
 use Rattle.history.proofs.Ground.{Ground, broken, Fits, storesAt, isBoot, FitsRuling, ground-length, finish, ruling, rule-same, fits-rule, intact-same, fits-boot, calm, kind-same, index-ok}
 use Rattle.opening.proofs.Decided.{decided}
@@ -388,6 +388,6 @@ sim m b store i = sim-store m b i
 sim m b (answer a) i = sim-answer m b i a
 sim m b powerCut i = sim-cut m b i
 
-pub sim-run : (cs : List Call) (m : Machine) (b : Ledger) → Related m b → Related (run m cs) (ledgerRun b cs)
+pub sim-run : (cs : List Call) (m : Machine) (b : Ledger) → Related m b → Related (run step m cs) (run ledgerStep b cs)
 sim-run [] m b i = i
 sim-run (c ∷ cs) m b i = sim-run cs (step m c .state) (ledgerStep b c .state) (sim m b c i .related)

@@ -112,11 +112,11 @@ abbrev pub act : Machine → Act → Step Machine
 act m (openCold x) = let o = openColdBoot (m .image) x in afterBoot m (o .work) (o .status)
 act m (call c) = step m c
 
--- a list of calls
-abbrev pub run : Machine → List Call → Machine
-run m [] = m
-run m (c ∷ cs) = run (step m c .state) cs
+-- a list of calls or acts, each a step from the state that the one before left: the state after it, and what each handed back
+abbrev pub run : {S C : Type 0} → (S → C → Step S) → S → List C → S
+run f s [] = s
+run f s (c ∷ cs) = run f (f s c .state) cs
 
-abbrev pub results : Machine → List Call → List Result
-results m [] = []
-results m (c ∷ cs) = step m c .result ∷ results (step m c .state) cs
+abbrev pub results : {S C : Type 0} → (S → C → Step S) → S → List C → List Result
+results f s [] = []
+results f s (c ∷ cs) = f s c .result ∷ results f (f s c .state) cs

@@ -210,14 +210,6 @@ ledgerStep b store = ledgerStore b (b .hand)
 ledgerStep b (answer buffer) = record { state = b; result = ledgerAnswer (b .hand) (b .made) buffer }
 ledgerStep b powerCut = record { state = letGo b; result = cutOff }
 
-abbrev pub ledgerRun : Ledger → List Call → Ledger
-ledgerRun b [] = b
-ledgerRun b (c ∷ cs) = ledgerRun (ledgerStep b c .state) cs
-
-abbrev pub ledgerResults : Ledger → List Call → List Result
-ledgerResults b [] = []
-ledgerResults b (c ∷ cs) = ledgerStep b c .result ∷ ledgerResults (ledgerStep b c .state) cs
-
 -- after the cold boot's last store
 abbrev pub firstLedger : BootInputs → Ledger
 firstLedger x = record { history = coldBoot x ∷ []; hand = none; made = 0; torn = false; unfinished = false }

@@ -76,12 +76,22 @@ identityCode = 0x49444549
 abbrev pub verifyCode : ℕ
 verifyCode = 0x53494756
 
+-- "Request bytes": a stash's, of a request that is its checksum alone (disable, identity key), and a signature's
+abbrev pub stashLength : ℕ
+stashLength = 60
+
+abbrev pub bareLength : ℕ
+bareLength = 4
+
+abbrev pub verifyLength : ℕ
+verifyLength = 196
+
 -- stash: declined while off, refused where the nodes are not well formed, declined where no node is free, in that order
 abbrev pub stashMeasurement : Command
 stashMeasurement =
     record {
       known = true;
-      lengthOk = λ b. eqb (length b) 60;
+      lengthOk = λ b. eqb (length b) stashLength;
       rules = λ v r.
           declines number.dpeOff (not (v .on))
           ∷ refuses number.notWellFormed (not (wellFormed nodeCount (v .nodes)))
@@ -92,14 +102,14 @@ stashMeasurement =
     }
 
 abbrev pub disableAttestation : Command
-disableAttestation = record { known = true; lengthOk = λ b. eqb (length b) 4; rules = λ v r. []; task = λ r. disableCommand; answer = λ r. [] }
+disableAttestation = record { known = true; lengthOk = λ b. eqb (length b) bareLength; rules = λ v r. []; task = λ r. disableCommand; answer = λ r. [] }
 
 -- "5 handoff table wrong (identity key only)"; "X 48, Y 48", bytes 304 to 399 of the table
 abbrev pub identityKey : Command
 identityKey =
     record {
       known = true;
-      lengthOk = λ b. eqb (length b) 4;
+      lengthOk = λ b. eqb (length b) bareLength;
       rules = λ v r. refuses number.wrongTable (not (handoffOk (r .handoff))) ∷ [];
       task = λ r. noStores;
       answer = λ r. take 96 (drop 304 (r .handoff));
@@ -108,7 +118,13 @@ identityKey =
 -- "0x42534947 verdict no (verify only)"
 abbrev pub verifySignature : Command
 verifySignature =
-    record { known = true; lengthOk = λ b. eqb (length b) 196; rules = λ v r. refuses number.badSignature (not (r .verdict)) ∷ []; task = λ r. noStores; answer = λ r. [] }
+    record {
+      known = true;
+      lengthOk = λ b. eqb (length b) verifyLength;
+      rules = λ v r. refuses number.badSignature (not (r .verdict)) ∷ [];
+      task = λ r. noStores;
+      answer = λ r. [];
+    }
 
 abbrev pub unknownCommand : Command
 unknownCommand = record { known = false; lengthOk = λ b. false; rules = λ v r. []; task = λ r. noStores; answer = λ r. [] }

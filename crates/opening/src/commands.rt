@@ -1,4 +1,4 @@
-// The command codes, and the lengths of their requests.
+// The command codes, and the lengths of their requests. The same names stand in specs/Rules.antt.
 pub const STASH_CODE: u32 = 0x4D454153;
 
 pub const DISABLE_CODE: u32 = 0x4453424C;
@@ -9,8 +9,7 @@ pub const VERIFY_CODE: u32 = 0x53494756;
 
 pub const STASH_LENGTH: usize = 60;
 
-pub const DISABLE_LENGTH: usize = 4;
-
-pub const IDENTITY_LENGTH: usize = 4;
+// A request that is its checksum alone: disable, identity key.
+pub const BARE_LENGTH: usize = 4;
 
 pub const VERIFY_LENGTH: usize = 196;

@@ -3,7 +3,7 @@ ghost use mathlib.Core.Path.{_≡_};
 ghost use mathlib.Core.Bool.{false};
 ghost use mathlib.Core.List.{[]};
 ghost use Rattle.opening.specs.Tasks.{requestOf};
-ghost use Rattle.opening.specs.Rules.{disableAttestation, disableCode};
+ghost use Rattle.opening.specs.Rules.{disableAttestation, disableCode, bareLength};
 ghost use Rattle.request.specs.Screen.{commandOpened};
 use crate::answer::plain_work;
 use crate::screen::screen;
@@ -15,7 +15,7 @@ use opening::works::refused;
 use work::Kind;
 
 pub(crate) fn open_disable(image: &[u32], bytes: &[u8], n: usize) -> Opened
-    requires { ⌜ n ≡ 4 ⌝ }
+    requires { ⌜ n ≡ bareLength ⌝ }
     ensures { λ r. ⌜ r ≡ commandOpened disableAttestation (now (image .entry)) (requestOf disableCode (now (bytes .entry)) 0 [] false) ⌝ }
 {
     let status = screen(DISABLE_CODE, bytes, n);

@@ -2,7 +2,7 @@
 ghost use mathlib.Core.Path.{_≡_};
 ghost use mathlib.Core.Bool.{false};
 ghost use Rattle.opening.specs.Tasks.{requestOf};
-ghost use Rattle.opening.specs.Rules.{handoffOk, identityKey, identityCode};
+ghost use Rattle.opening.specs.Rules.{handoffOk, identityKey, identityCode, bareLength};
 ghost use Rattle.request.specs.Screen.{commandOpened};
 use crate::answer::plain_work;
 use crate::screen::screen;
@@ -41,7 +41,7 @@ fn handoff_ok(h: &[u8]) -> bool
 }
 
 pub(crate) fn open_identity(image: &[u32], bytes: &[u8], n: usize, handoff: &[u8]) -> Opened
-    requires { ⌜ n ≡ 4 ⌝ }
+    requires { ⌜ n ≡ bareLength ⌝ }
     ensures { λ r. ⌜ r ≡ commandOpened identityKey (now (image .entry)) (requestOf identityCode (now (bytes .entry)) 0 (now (handoff .entry)) false) ⌝ }
 {
     let status = screen(IDENTITY_CODE, bytes, n);

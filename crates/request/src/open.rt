@@ -12,10 +12,9 @@ use layout::refusals::UNFINISHED;
 use layout::refusals::UNKNOWN_CODE;
 use layout::refusals::WRONG_IMAGE;
 use opening::Opened;
+use opening::commands::BARE_LENGTH;
 use opening::commands::DISABLE_CODE;
-use opening::commands::DISABLE_LENGTH;
 use opening::commands::IDENTITY_CODE;
-use opening::commands::IDENTITY_LENGTH;
 use opening::commands::STASH_CODE;
 use opening::commands::STASH_LENGTH;
 use opening::commands::VERIFY_CODE;
@@ -42,8 +41,8 @@ pub fn open_request(
     }
     match code {
         STASH_CODE => return open_stash(image, bytes, STASH_LENGTH, caller),
-        DISABLE_CODE => return open_disable(image, bytes, DISABLE_LENGTH),
-        IDENTITY_CODE => return open_identity(image, bytes, IDENTITY_LENGTH, handoff),
+        DISABLE_CODE => return open_disable(image, bytes, BARE_LENGTH),
+        IDENTITY_CODE => return open_identity(image, bytes, BARE_LENGTH, handoff),
         VERIFY_CODE => return open_verify(image, bytes, VERIFY_LENGTH, verdict),
         _ => return refused(UNKNOWN_CODE),
     }

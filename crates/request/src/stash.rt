@@ -10,7 +10,7 @@ ghost use Rattle.tree.specs.Tree.{lowestFree};
 ghost use Rattle.tree.specs.Nodes.{treeIn};
 ghost use Rattle.making.specs.Made.{plainWork};
 ghost use Rattle.opening.specs.Tasks.{requestOf, stash};
-ghost use Rattle.opening.specs.Rules.{answerOf, measurementIn, stashMeasurement, stashCode};
+ghost use Rattle.opening.specs.Rules.{answerOf, measurementIn, stashMeasurement, stashCode, stashLength};
 ghost use Rattle.opening.specs.Works.{workAt};
 ghost use Rattle.request.specs.Screen.{commandOpened, screenedOpened};
 use crate::answer::plain_work;
@@ -52,7 +52,7 @@ const DIGEST_FROM: usize = 8;
 
 // The work of a stash at the free node `node`.
 fn stash_work(image: &[u32], bytes: &[u8], caller: u32, node: usize) -> Work
-    requires { ⌜ (length (now bytes) ≡ 60) × (node ≡ lowestFree nodeCount (treeIn (now image))) ⌝ }
+    requires { ⌜ (length (now bytes) ≡ stashLength) × (node ≡ lowestFree nodeCount (treeIn (now image))) ⌝ }
     ensures { λ r. ⌜ r ≡ workAt (now (image .entry)) (stash (measurementIn (requestOf stashCode (now (bytes .entry)) caller [] false))) (answerOf stashCode (bytes4 0)) ⌝ }
 {
     let holder = holder_index(image);
@@ -83,7 +83,7 @@ fn declined(result: u32) -> Work
 
 // After length and checksum.
 fn stash_ready(image: &[u32], bytes: &[u8], caller: u32) -> Opened
-    requires { ⌜ (length (now image) ≡ imageWords) × (length (now bytes) ≡ 60) ⌝ }
+    requires { ⌜ (length (now image) ≡ imageWords) × (length (now bytes) ≡ stashLength) ⌝ }
     ensures { λ r. ⌜ r ≡ screenedOpened stashMeasurement (now (image .entry)) (requestOf stashCode (now (bytes .entry)) caller [] false) ⌝ }
 {
     if image[ATTESTATION_AT] != 1 {
@@ -100,7 +100,7 @@ fn stash_ready(image: &[u32], bytes: &[u8], caller: u32) -> Opened
 }
 
 pub(crate) fn open_stash(image: &[u32], bytes: &[u8], n: usize, caller: u32) -> Opened
-    requires { ⌜ (length (now image) ≡ imageWords) × (n ≡ 60) ⌝ }
+    requires { ⌜ (length (now image) ≡ imageWords) × (n ≡ stashLength) ⌝ }
     ensures { λ r. ⌜ r ≡ commandOpened stashMeasurement (now (image .entry)) (requestOf stashCode (now (bytes .entry)) caller [] false) ⌝ }
 {
     let status = screen(STASH_CODE, bytes, n);

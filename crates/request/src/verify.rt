@@ -2,7 +2,7 @@
 ghost use mathlib.Core.Path.{_≡_};
 ghost use mathlib.Core.List.{[]};
 ghost use Rattle.opening.specs.Tasks.{requestOf};
-ghost use Rattle.opening.specs.Rules.{verifySignature, verifyCode};
+ghost use Rattle.opening.specs.Rules.{verifySignature, verifyCode, verifyLength};
 ghost use Rattle.request.specs.Screen.{commandOpened};
 use crate::answer::plain_work;
 use crate::screen::screen;
@@ -15,7 +15,7 @@ use opening::works::refused;
 use work::Kind;
 
 pub(crate) fn open_verify(image: &[u32], bytes: &[u8], n: usize, verdict: bool) -> Opened
-    requires { ⌜ n ≡ 196 ⌝ }
+    requires { ⌜ n ≡ verifyLength ⌝ }
     ensures { λ r. ⌜ r ≡ commandOpened verifySignature (now (image .entry)) (requestOf verifyCode (now (bytes .entry)) 0 [] verdict) ⌝ }
 {
     let status = screen(VERIFY_CODE, bytes, n);
