@@ -28,7 +28,7 @@ use Rattle.opening.specs.Tasks.{Request, BootInputs, Task, Ruling, refused, acc
 use Rattle.opening.specs.Rules.{bootRules, bootRuling, updateTask}
 use Rattle.opening.specs.Works.{factsOf, workAt}
 use Rattle.opening.specs.Openings.{openedOf, bootedOf, viewIn, openRequest, intact, openUpdateBoot, outcomeOf, outcomeNumber}
-use Rattle.history.specs.Calls.{Call, request, updateBoot, store, answer, powerCut, kindName, Result, refusal, opened, booted, stored, answered, Hand, Machine, Step, afterRequest, afterBoot, afterStore, answerTaken, step, run}
+use Rattle.history.specs.Calls.{Call, request, updateBoot, store, answer, powerCut, Result, refusal, opened, booted, stored, answered, Hand, Machine, Step, afterRequest, afterBoot, afterStore, answerTaken, step, run}
 use Rattle.history.specs.Ledger.{treeAt, stateOf, Job, jobAt, Ledger, viewOf, tears, letGo, ledgerRequest, ledgerBoot, updateRuling, ledgerStore, ledgerAnswer, ledgerStep}
 use Rattle.history.proofs.Runs.{planAt, plan-answer, length-at}
 use Rattle.history.proofs.Ground.{Ground, broken, Fits, storesAt, isBoot, FitsRuling, ground-length, finish, ruling, rule-same, fits-rule, intact-same, fits-boot, calm, kind-same, index-ok}
@@ -202,9 +202,9 @@ module _ {l : List ℕ} {h : List Task} {t u : Bool} (g : Ground l h t u) (tk : 
           (done (subst (λ (x : Bool). Ground l h t x) (rest z) g) (sym z) (fresh .carried) e)
       go (suc n) z = going {j = job} {k = 0} l u g f fresh refl (omega arith) refl refl e
 
-  kind-name : kindName (workAt l tk a .kind) ≡ kindName (factsOf tk .kind (treeAt (stateOf h .chain)))
+  kind-now : workAt l tk a .kind ≡ factsOf tk .kind (treeAt (stateOf h .chain))
   unfolding workAt workWith
-  kind-name = ap kindName (kind-same g tk f)
+  kind-now = kind-same g tk f
 
   answer-held : take (workAt l tk a .«answer_len») (workAt l tk a .answer) ≡ a
   unfolding workAt workWith
@@ -237,7 +237,7 @@ module _ (m : Machine) (b : Ledger) (i : Related m b) where
   after-request (accepted tk a) f =
       record {
         related = start ground tk a (f .0) (f .1) false (f .2);
-        result = λ j. opened (kind-name ground tk a (f .0) (f .1) j) (opened-left ground tk a (f .0) (f .1) j) (answer-held ground tk a (f .0) (f .1) j);
+        result = λ j. opened (kind-now ground tk a (f .0) (f .1) j) (opened-left ground tk a (f .0) (f .1) j) (answer-held ground tk a (f .0) (f .1) j);
       }
 
   after-boot : (R : Ruling) → FitsRuling (b .history) gone (b .unfinished) true R
@@ -247,7 +247,7 @@ module _ (m : Machine) (b : Ledger) (i : Related m b) where
   after-boot (accepted tk a) f =
       record {
         related = start ground tk a (f .0) (f .1) true (f .2);
-        result = λ j. booted (outcomeNumber (outcomeOf (factsOf tk .boot))) (kind-name ground tk a (f .0) (f .1) j) (opened-left ground tk a (f .0) (f .1) j);
+        result = λ j. booted (outcomeNumber (outcomeOf (factsOf tk .boot))) (kind-now ground tk a (f .0) (f .1) j) (opened-left ground tk a (f .0) (f .1) j);
       }
 
   sim-request : (r : Request) → Together (step m (request r)) (ledgerStep b (request r))

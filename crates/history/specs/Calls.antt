@@ -8,7 +8,6 @@ use lib.Dec.{eqb}
 use lib.ListN.{take}
 use Rattle.work.specs.Entries.{leftOf, storeResult, storeImage, answerResult, answerBuffer}
 use Rattle.work.specs.declared.Kind.{Kind}
-use Rattle.work.specs.declared.Kind.the-variants.{Nothing, Disabling, Stash, Update, ColdBoot}
 use Rattle.work.specs.declared.Work.{Work}
 use Rattle.opening.specs.Tasks.{Request, BootInputs}
 use Rattle.opening.specs.Openings.{openRequest, openColdBoot, openUpdateBoot, outcomeNumber}
@@ -30,25 +29,14 @@ pub data Act : Type 0 where
   openCold : BootInputs → Act
   call : Call → Act
 
--- the five kinds of work, without their indices (document 01, "Work, one word at a time")
-pub data WorkKind : Type 0 where
-  nothingToStore disabling stashing updating coldBooting : WorkKind
-
-abbrev pub kindName : Kind → WorkKind
-kindName Nothing = nothingToStore
-kindName Disabling = disabling
-kindName (Stash s) = stashing
-kindName (Update root) = updating
-kindName ColdBoot = coldBooting
-
 -- what an act hands back
 pub data Result : Type 0 where
   -- refused, with its number
   refusal : ℕ → Result
-  -- a request is open: the kind of work, its stores left and the answer that it will give
-  opened : (kind : WorkKind) (left : ℕ) (answer : List ℕ) → Result
+  -- a request is open: the kind of work with its indices, its stores left and the answer that it will give
+  opened : (kind : Kind) (left : ℕ) (answer : List ℕ) → Result
   -- a boot is open: the outcome's number, the kind of work and its stores left
-  booted : (outcome : ℕ) (kind : WorkKind) (left : ℕ) → Result
+  booted : (outcome : ℕ) (kind : Kind) (left : ℕ) → Result
   -- a store was made: the stores left
   stored : (left : ℕ) → Result
   -- an answer was asked for: its number, the bytes written, and the buffer afterwards
@@ -77,11 +65,11 @@ withHand m w b = record { image = m .image; hand = some (record { work = w; boot
 
 -- "An accepted opening's work becomes the one in hand"; a refused one changes nothing
 abbrev pub afterRequest : Machine → Work → Status → Step Machine
-afterRequest m w status.Ready = record { state = withHand m w false; result = opened (kindName (w .kind)) (leftOf w) (take (w .«answer_len») (w .answer)) }
+afterRequest m w status.Ready = record { state = withHand m w false; result = opened (w .kind) (leftOf w) (take (w .«answer_len») (w .answer)) }
 afterRequest m w (status.Refused n) = record { state = m; result = refusal n }
 
 abbrev pub afterBoot : Machine → Work → BootStatus → Step Machine
-afterBoot m w (bootStatus.Ready o) = record { state = withHand m w true; result = booted (outcomeNumber o) (kindName (w .kind)) (leftOf w) }
+afterBoot m w (bootStatus.Ready o) = record { state = withHand m w true; result = booted (outcomeNumber o) (w .kind) (leftOf w) }
 afterBoot m w (bootStatus.Refused n) = record { state = m; result = refusal n }
 
 -- "With none in hand a store does nothing."

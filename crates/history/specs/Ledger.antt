@@ -19,7 +19,7 @@ use Rattle.opening.specs.Rules.{requestRules, requestRuling, bootRules, bootRul
 use Rattle.opening.specs.Works.{factsOf}
 use Rattle.opening.specs.Openings.{outcomeOf, outcomeNumber}
 use Rattle.opening.specs.declared.Outcome.{Outcome}
-use Rattle.history.specs.Calls.{Call, request, updateBoot, store, answer, powerCut, kindName, Result, refusal, opened, booted, stored, answered, noWork, cutOff, Step}
+use Rattle.history.specs.Calls.{Call, request, updateBoot, store, answer, powerCut, Result, refusal, opened, booted, stored, answered, noWork, cutOff, Step}
 
 -- ---- registers and chain of a history: demand 2's definitions, applied in order
 
@@ -163,7 +163,7 @@ abbrev pub ledgerRequest : Ledger → Ruling → Step Ledger
 ledgerRequest b (refused n) = record { state = b; result = refusal n }
 ledgerRequest b (accepted t a) =
     let j = jobAt (chainOf b) t a in
-    record { state = takeUp (letGo b) j; result = opened (kindName (factsOf t .kind (treeAt (chainOf b)))) (j .stores) a }
+    record { state = takeUp (letGo b) j; result = opened (factsOf t .kind (treeAt (chainOf b))) (j .stores) a }
 
 abbrev pub ledgerBoot : Ledger → Ruling → Step Ledger
 ledgerBoot b (refused n) = record { state = b; result = refusal n }
@@ -171,7 +171,7 @@ ledgerBoot b (accepted t a) =
     let j = jobAt (chainOf b) t a in
     record {
       state = takeUp (letGo b) j;
-      result = booted (outcomeNumber (outcomeOf (factsOf t .boot))) (kindName (factsOf t .kind (treeAt (chainOf b)))) (j .stores);
+      result = booted (outcomeNumber (outcomeOf (factsOf t .boot))) (factsOf t .kind (treeAt (chainOf b))) (j .stores);
     }
 
 -- an update boot: the work in hand goes first, so a torn one makes it a disabling; else ROM's verdict decides

@@ -13,7 +13,7 @@ use Rattle.opening.specs.declared.BootStatus.the-variants as bootStatus
 use Rattle.opening.specs.declared.Booted as boots
 use Rattle.opening.specs.Tasks.{requestOf, bootOf}
 use Rattle.opening.specs.Openings.{outcomeNumber}
-use Rattle.history.specs.Calls.{Hand, Machine, Step, request, updateBoot, store, answer, powerCut, Act, openCold, call, Result, refusal, opened, booted, stored, answered, noWork, cutOff, kindName}
+use Rattle.history.specs.Calls.{Hand, Machine, Step, request, updateBoot, store, answer, powerCut, Act, openCold, call, Result, refusal, opened, booted, stored, answered, noWork, cutOff}
 use Rattle.machine.specs.declared.InHand.{InHand}
 use Rattle.machine.specs.declared.Report.{Report}
 use Rattle.machine.specs.declared.Report.the-variants.{Refused, Opened, Booted, Stored, Answered, NoWork, CutOff}
@@ -39,8 +39,8 @@ actOf op code bytes caller handoff verdict digest secret buffer =
 -- a report beside the work in hand and the buffer: kind and answer are that work's
 unfoldable pub resultOf : InHand → Report → List ℕ → Result
 resultOf h (Refused n) buffer = refusal n
-resultOf h (Opened n) buffer = opened (kindName (h .work .kind)) n (take (h .work .«answer_len») (h .work .answer))
-resultOf h (Booted o n) buffer = booted (outcomeNumber o) (kindName (h .work .kind)) n
+resultOf h (Opened n) buffer = opened (h .work .kind) n (take (h .work .«answer_len») (h .work .answer))
+resultOf h (Booted o n) buffer = booted (outcomeNumber o) (h .work .kind) n
 resultOf h (Stored n) buffer = stored n
 resultOf h (Answered n w) buffer = answered n w buffer
 resultOf h NoWork buffer = noWork
