@@ -26,7 +26,7 @@ use opening::works::boot_refused;
 use sha384::digest::extend;
 use slices::little_endian::pack;
 use slices::strings::bytes_of;
-use work::Kind;
+use table::Kind;
 use work::Work;
 
 fn cold_work(digest: &[u8], secret: &[u8]) -> Work

@@ -35,9 +35,9 @@ use slices::image::word;
 use slices::little_endian::pack;
 use slices::strings::bytes_in;
 use slices::strings::bytes_of;
+use table::Kind;
 use tree::formed::well_formed;
 use tree::index::root_index;
-use work::Kind;
 use work::Work;
 
 // The root's current measurement equals PCR3, word for word.

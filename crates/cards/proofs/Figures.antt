@@ -1,7 +1,7 @@
 -- All figures, by computing. Assumes nothing.
 use mathlib.Core.Path.{refl}
 use Rattle.layout.proofs.Figures.{image-figures}
-use Rattle.work.proofs.Figures.{store-figures}
+use Rattle.table.proofs.Figures.{store-figures}
 use Rattle.cards.specs.Figures.{Figures}
 
 pub figures : Figures

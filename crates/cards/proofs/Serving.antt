@@ -15,11 +15,11 @@ use Rattle.message.specs.Checksum.{checksumOf}
 use Rattle.tree.specs.Tree.{Tree, defaultWords, nodeWith, lowestFree}
 use Rattle.tree.specs.Nodes.{treeIn}
 use Rattle.tree.proofs.WellFormed.{free-there, holder-only}
-use Rattle.work.specs.Table.{numberOf, indexOk}
+use Rattle.table.specs.Table.{numberOf, indexOk}
 use Rattle.work.specs.Entries.{wellShaped, leftOf}
 use Rattle.making.specs.Made.{answerIn, workWith}
-use Rattle.work.specs.declared.Kind.the-variants.{Stash}
-use Rattle.work.specs.declared.StashAt.{StashAt}
+use Rattle.table.specs.declared.Kind.the-variants.{Stash}
+use Rattle.table.specs.declared.StashAt.{StashAt}
 use Rattle.opening.specs.Tasks.{Request, Task, noStores, stash, accepted}
 use Rattle.opening.specs.Rules.{wrongChecksum, measurementIn, answerOf}
 use Rattle.opening.specs.Works.{workAt}

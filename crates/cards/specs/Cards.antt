@@ -11,10 +11,10 @@ use Rattle.layout.specs.Below.{countBelow}
 use Rattle.message.specs.Checksum.{checksumOf}
 use Rattle.tree.specs.Tree.{wellFormed}
 use Rattle.tree.specs.Nodes.{treeIn}
-use Rattle.work.specs.Table.{numberOf}
+use Rattle.table.specs.Table.{numberOf}
 use Rattle.work.specs.Entries.{leftOf, storeNumber}
-use Rattle.work.specs.declared.Kind.the-variants.{Nothing, Stash}
-use Rattle.work.specs.declared.StashAt.{StashAt}
+use Rattle.table.specs.declared.Kind.the-variants.{Nothing, Stash}
+use Rattle.table.specs.declared.StashAt.{StashAt}
 use Rattle.work.specs.declared.Work.{Work}
 use Rattle.opening.specs.Tasks.{Request, BootInputs}
 use Rattle.opening.specs.Openings.{statusNumber, bootNumber, openRequest, openColdBoot, openUpdateBoot, coldBooted}

@@ -13,8 +13,8 @@ use crate::state::Progress;
 use crate::state::stopped;
 use machine::InHand;
 use slices::little_endian::read32;
-use work::Kind;
-use work::StashAt;
+use table::Kind;
+use table::StashAt;
 use work::Work;
 
 // Words of the input into the front of the memory.

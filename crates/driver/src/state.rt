@@ -5,7 +5,7 @@ ghost use Rattle.driver.specs.Run.{memoryWords, Ready, Moved};
 use layout::IMAGE_WORDS;
 use machine::InHand;
 use making::bare_work;
-use work::Kind;
+use table::Kind;
 
 // The most words that are lent, and the most bytes of the input that are used.
 pub const MEMORY_WORDS: usize = 4096;

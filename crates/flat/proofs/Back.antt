@@ -9,8 +9,8 @@ use Rattle.layout.specs.Sizes.{registerWords, nodeWords, answerMax}
 use Rattle.layout.specs.Words.{part, byteOf, wordsAt}
 use Rattle.layout.proofs.Tab.{tab-is}
 use Rattle.layout.proofs.Packing.{length-words, getD-bytes, bytes-words}
-use Rattle.work.specs.declared.Kind.{Kind}
-use Rattle.work.specs.declared.Kind.the-variants.{Nothing, Disabling, Stash, Update, ColdBoot}
+use Rattle.table.specs.declared.Kind.{Kind}
+use Rattle.table.specs.declared.Kind.the-variants.{Nothing, Disabling, Stash, Update, ColdBoot}
 use Rattle.work.specs.declared.Work.{Work}
 use Rattle.flat.specs.Flat.{registerWord, journeyWord, nodeWord, secretWord, answerWord, answerWords, lowOf, highOf, joinedOf, kindNumber, firstIndex, secondIndex, headOf, rowOf, workWords, kindOf, positionOf, answerBytes, workOf}
 use Rattle.flat.proofs.Rows.{row-register, row-journey, row-node, row-secret, row-answer}

@@ -15,14 +15,14 @@ use Rattle.layout.specs.Sizes.{registerWords, nodeWords, answerMax, imageWords}
 use Rattle.layout.specs.Words.{part, byteOf}
 use Rattle.layout.proofs.Tab.{tab-is, getD-tab, length-tab}
 use Rattle.layout.proofs.Packing.{length-part, getD-part, part-within}
-use Rattle.work.specs.declared.Kind.{Kind}
-use Rattle.work.specs.declared.Kind.the-variants.{Nothing}
+use Rattle.table.specs.declared.Kind.{Kind}
+use Rattle.table.specs.declared.Kind.the-variants.{Nothing}
 use Rattle.work.specs.declared.Work.{Work}
 use Rattle.work.specs.declared.Stored.{Stored}
-use Rattle.work.specs.Table.{numberOf}
+use Rattle.table.specs.Table.{numberOf}
 use Rattle.work.specs.Entries.{leftOf, moved, storeNumber, storeResult, storeImage}
 use Rattle.work.specs.Parts.{storing}
-use Rattle.work.proofs.Numbers.{number-nothing}
+use Rattle.table.proofs.Numbers.{number-nothing}
 use Rattle.work.proofs.Shape.{left-position}
 use Rattle.work.proofs.Parts.{storingOf, number-storing, image-storing}
 use Rattle.flat.specs.Flat.{registerWord, journeyWord, nodeWord, secretWord, answerWord, workSize, positionWord, lowOf, highOf, kindOf, positionOf, answerBytes, workOf}

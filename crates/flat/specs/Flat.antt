@@ -8,8 +8,8 @@ use lib.ListN.{length, getD}
 use lib.Dec.{ltb, eqb}
 use Rattle.layout.specs.Sizes.{registerWords, nodeWords, answerMax}
 use Rattle.layout.specs.Words.{tab, zeros, byteOf, part, wordsAt}
-use Rattle.work.specs.declared.Kind.{Kind}
-use Rattle.work.specs.declared.Kind.the-variants.{Nothing, Disabling, Stash, Update, ColdBoot}
+use Rattle.table.specs.declared.Kind.{Kind}
+use Rattle.table.specs.declared.Kind.the-variants.{Nothing, Disabling, Stash, Update, ColdBoot}
 use Rattle.work.specs.declared.Work.{Work}
 
 -- ---- where each field stands

@@ -13,8 +13,8 @@ use layout::NODE_WORDS;
 use layout::REGISTER_WORDS;
 use slices::image::word;
 use slices::little_endian::read32;
-use work::Kind;
-use work::StashAt;
+use table::Kind;
+use table::StashAt;
 use work::Work;
 
 const FIRST_IN: usize = 1;

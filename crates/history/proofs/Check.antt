@@ -9,9 +9,9 @@ use lib.Dec.{eqb}
 use lib.ListN.{length, getD, replicate}
 use Rattle.layout.specs.Sizes.{imageWords, attestationAt}
 use Rattle.layout.specs.Below.{allBelow}
-use Rattle.work.specs.Table.{numberOf}
+use Rattle.table.specs.Table.{numberOf}
 use Rattle.work.specs.Entries.{leftOf}
-use Rattle.work.specs.declared.Kind.the-variants.{Disabling, Update}
+use Rattle.table.specs.declared.Kind.the-variants.{Disabling, Update}
 use Rattle.opening.specs.Tasks.{BootInputs, bootOf, Task}
 use Rattle.opening.specs.Rules.{inputsOk}
 use Rattle.opening.specs.Openings.{openColdBoot, bootNumber}

@@ -13,11 +13,12 @@ use Rattle.layout.specs.Sizes.{imageWords, markAt, attestationAt, secretAt, reg
 use Rattle.layout.specs.Words.{words48, part}
 use Rattle.layout.specs.Refusals as number
 use Rattle.layout.proofs.Cases.{and-right}
-use Rattle.work.specs.Table.{put, numberOf, indexOk, putOf}
+use Rattle.table.specs.Table.{put, numberOf, indexOk}
+use Rattle.work.specs.Entries.{putOf}
 use Rattle.work.specs.Entries.{wellShaped, leftOf}
 use Rattle.making.specs.Run.{allStores}
 use Rattle.making.specs.Made.{workWith}
-use Rattle.work.specs.declared.Put.{Put}
+use Rattle.table.specs.declared.Put.{Put}
 use Rattle.work.specs.declared.Work.{Work}
 use Rattle.work.proofs.Plans.{length-apply, put-plan}
 use Rattle.making.proofs.After.{store-made, store-refused, all-made}

@@ -15,8 +15,8 @@ use Rattle.layout.specs.Words.{bytes4}
 use Rattle.layout.specs.Refusals.{unfinished, unknownCode}
 use Rattle.tree.specs.Tree.{Tree, wellFormed, lowestFree}
 use Rattle.tree.specs.Nodes.{treeIn}
-use Rattle.work.specs.Table.{numberOf, indexOk}
-use Rattle.work.specs.declared.Put.{Put}
+use Rattle.table.specs.Table.{numberOf, indexOk}
+use Rattle.table.specs.declared.Put.{Put}
 use Rattle.work.proofs.Plans.{apply, length-apply}
 use Rattle.opening.specs.Tasks.{Request, BootInputs, Task, noStores, disableCommand, update, Ruling, refused, accepted, View}
 use Rattle.opening.specs.Rules.{refuses, decide, Command, stashMeasurement, commandOf, declined, served, commandRules, requestRules, requestRuling, updateTask}

@@ -7,8 +7,8 @@ use mathlib.Core.List.{List}
 use borrow.Author.Tests.{lt-ltb}
 use Rattle.layout.specs.Sizes.{nodeCount}
 use Rattle.tree.specs.Tree.{lowestFree}
-use Rattle.work.specs.Table.{numberOf, indexOk}
-use Rattle.work.specs.declared.Put.{Put}
+use Rattle.table.specs.Table.{numberOf, indexOk}
+use Rattle.table.specs.declared.Put.{Put}
 use Rattle.work.proofs.Plans.{apply}
 use Rattle.opening.specs.Tasks.{Task, noStores, keptBoot, disableCommand, disablingBoot, stash, update, coldBoot}
 use Rattle.opening.specs.Works.{factsOf}

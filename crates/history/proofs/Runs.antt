@@ -17,9 +17,10 @@ use Rattle.tree.specs.Nodes.{treeIn, cumulativeIn}
 use Rattle.tree.specs.Tree.{defaultWords, rootIn, nodeWith, lowestFree}
 use Rattle.nodes.specs.Record.{Node, retiredHandle, nodeRow, placeRow, measurementsRow, withHandle, withCurrent, withCumulative}
 use Rattle.nodes.proofs.Rows.{length48, length-row, store-handle, store-current, store-cumulative, retired-row, raw-current, raw-cumulative}
-use Rattle.work.specs.Table.{put, Run, one, fill, copy, stashRuns, disablingRuns, updateRuns, coldRuns, runsOf, numberOf}
+use Rattle.table.specs.Table.{put, Run, one, fill, copy, stashRuns, disablingRuns, updateRuns, coldRuns, numberOf}
+use Rattle.work.specs.Entries.{runsOf}
 use Rattle.making.specs.Made.{workWith}
-use Rattle.work.specs.declared.Put.{Put}
+use Rattle.table.specs.declared.Put.{Put}
 use Rattle.work.proofs.Plans.{apply, storesIn, EveryRun, every-stores, every-at, plan, length-plan, run-one, run-zeros, run-fill, run-copy, run-part}
 use Rattle.opening.specs.Values.{measured, childNode, rootNode}
 use Rattle.opening.specs.Tasks.{BootInputs, Measurement, Task, disableCommand, disablingBoot, stash, update, coldBoot}

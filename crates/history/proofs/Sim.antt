@@ -16,10 +16,11 @@ use lib.Seq.{take-all, take-append-seam, paste}
 use Rattle.layout.specs.Sizes.{imageWords, markAt, answerMax}
 use Rattle.layout.specs.Words.{zeros}
 use Rattle.layout.specs.Refusals as number
-use Rattle.work.specs.Table.{put, runsOf, numberOf, indexOk, putOf}
+use Rattle.table.specs.Table.{put, numberOf, indexOk}
+use Rattle.work.specs.Entries.{runsOf, putOf}
 use Rattle.work.specs.Entries.{wellShaped, finished, leftOf, moved, answerNumber, answerResult, answerBuffer}
 use Rattle.making.specs.Made.{workWith}
-use Rattle.work.specs.declared.Put.{Put}
+use Rattle.table.specs.declared.Put.{Put}
 use Rattle.work.specs.declared.Work.{Work}
 use Rattle.work.specs.declared.Stored.{Stored}
 use Rattle.work.proofs.Plans.{apply, length-apply, plan, put-plan, one-more, mark-mid}

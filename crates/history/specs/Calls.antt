@@ -7,7 +7,7 @@ use mathlib.Core.Option.{Option, none, some}
 use lib.Dec.{eqb}
 use lib.ListN.{take}
 use Rattle.work.specs.Entries.{leftOf, storeResult, storeImage, answerResult, answerBuffer}
-use Rattle.work.specs.declared.Kind.{Kind}
+use Rattle.table.specs.declared.Kind.{Kind}
 use Rattle.work.specs.declared.Work.{Work}
 use Rattle.opening.specs.Tasks.{Request, BootInputs}
 use Rattle.opening.specs.Openings.{openRequest, openColdBoot, openUpdateBoot, outcomeNumber}

@@ -12,7 +12,7 @@ use Rattle.layout.specs.Refusals as number
 use Rattle.sha384.specs.Entries.{extended}
 use Rattle.tree.specs.Tree.{Tree, defaultWords, rootIn, nodeWith, lowestFree}
 use Rattle.nodes.specs.Record.{Node, retiredHandle, placeRow, withHandle, withCurrent, withCumulative, treeOf}
-use Rattle.work.specs.Table.{numberOf}
+use Rattle.table.specs.Table.{numberOf}
 use Rattle.opening.specs.Values.{measured, childNode, rootNode}
 use Rattle.opening.specs.Tasks.{BootInputs, Task, noStores, keptBoot, disableCommand, disablingBoot, stash, update, coldBoot, Ruling, refused, accepted, View}
 use Rattle.opening.specs.Rules.{requestRules, requestRuling, bootRules, bootRuling, updateTask}

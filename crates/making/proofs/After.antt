@@ -11,9 +11,10 @@ use borrow.Author.Tests.{eq-eqb, le-leb, lt-ltb}
 use Rattle.layout.specs.Sizes.{imageWords, answerMax}
 use Rattle.layout.specs.Refusals.{noStoreLeft}
 use Rattle.work.specs.declared.Work.{Work}
-use Rattle.work.specs.declared.Put.{Put}
+use Rattle.table.specs.declared.Put.{Put}
 use Rattle.work.specs.declared.Stored.{Stored}
-use Rattle.work.specs.Table.{put, runsOf, numberOf, putOf}
+use Rattle.table.specs.Table.{put, numberOf}
+use Rattle.work.specs.Entries.{runsOf, putOf}
 use Rattle.work.specs.Entries.{wellShaped, leftOf, moved, storeNumber, storeResult, storeImage, finished}
 use Rattle.making.specs.Run.{afterStores, allStores}
 use Rattle.work.proofs.Shape.{shaped-index, shaped-answer, shaped-position, left-position}

@@ -4,8 +4,8 @@ use mathlib.Core.List.{List, _++_}
 use lib.ListN.{length}
 use Rattle.layout.specs.Sizes.{nodeWords, registerWords, answerMax}
 use Rattle.layout.specs.Words.{zeros}
-use Rattle.work.specs.declared.Kind.{Kind}
-use Rattle.work.specs.declared.Kind.the-variants.{Nothing}
+use Rattle.table.specs.declared.Kind.{Kind}
+use Rattle.table.specs.declared.Kind.the-variants.{Nothing}
 use Rattle.work.specs.declared.Work.{Work}
 use Rattle.making.specs.declared.Values.{Values}
 use Rattle.making.specs.declared.Answer.{Answer}

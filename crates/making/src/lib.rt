@@ -7,7 +7,7 @@ ghost use Rattle.making.specs.Made.{noValues, noAnswer, madeWork, plainW
 use layout::ANSWER_MAX;
 use layout::NODE_WORDS;
 use layout::REGISTER_WORDS;
-use work::Kind;
+use table::Kind;
 use work::Work;
 
 // The words that a work will store, as its fields of these names.

@@ -10,8 +10,8 @@ use Rattle.tree.specs.Tree.{Tree, defaultWords, rootIn, nodeWith, lowestFree}
 use Rattle.tree.specs.Nodes.{treeIn, cumulativeIn}
 use Rattle.nodes.specs.Record.{nodeRow, measurementsRow}
 use Rattle.making.specs.Made.{noValues, workWith}
-use Rattle.work.specs.declared.Kind.{Kind}
-use Rattle.work.specs.declared.Kind.the-variants.{Nothing, Disabling, Stash, Update, ColdBoot}
+use Rattle.table.specs.declared.Kind.{Kind}
+use Rattle.table.specs.declared.Kind.the-variants.{Nothing, Disabling, Stash, Update, ColdBoot}
 use Rattle.work.specs.declared.Work.{Work}
 use Rattle.making.specs.declared.Values.{Values}
 use Rattle.opening.specs.Values.{measured, childNode, rootNode}

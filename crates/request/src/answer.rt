@@ -10,7 +10,7 @@ use making::Answer;
 use making::new_work;
 use making::no_values;
 use slices::little_endian::four;
-use work::Kind;
+use table::Kind;
 use work::Work;
 
 pub(crate) fn sealed(code: u32, rest: &[u8]) -> Answer

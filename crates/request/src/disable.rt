@@ -12,7 +12,7 @@ use opening::Status;
 use opening::commands::DISABLE_CODE;
 use opening::works::ready;
 use opening::works::refused;
-use work::Kind;
+use table::Kind;
 
 pub(crate) fn open_disable(image: &[u32], bytes: &[u8], n: usize) -> Opened
     requires { ⌜ n ≡ bareLength ⌝ }

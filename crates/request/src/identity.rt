@@ -14,7 +14,7 @@ use opening::works::ready;
 use opening::works::refused;
 use slices::little_endian::read16;
 use slices::little_endian::read32;
-use work::Kind;
+use table::Kind;
 
 // The handoff table: its bytes, its marker, its major version, and where the key is.
 const TABLE_BYTES: usize = 2048;

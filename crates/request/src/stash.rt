@@ -38,11 +38,11 @@ use slices::little_endian::pack;
 use slices::little_endian::read32;
 use slices::strings::bytes_in;
 use slices::strings::bytes_of;
+use table::Kind;
+use table::StashAt;
 use tree::formed::well_formed;
 use tree::index::free_index;
 use tree::index::holder_index;
-use work::Kind;
-use work::StashAt;
 use work::Work;
 
 // Where the request's fields are.

@@ -12,7 +12,7 @@ use opening::Status;
 use opening::commands::VERIFY_CODE;
 use opening::works::ready;
 use opening::works::refused;
-use work::Kind;
+use table::Kind;
 
 pub(crate) fn open_verify(image: &[u32], bytes: &[u8], n: usize, verdict: bool) -> Opened
     requires { ⌜ n ≡ verifyLength ⌝ }

@@ -13,7 +13,7 @@ use Rattle.tree.specs.Tree.{wellFormed, lowestFree, nodeWith, defaultWords}
 use Rattle.tree.specs.Nodes.{treeIn}
 use Rattle.tree.proofs.WellFormed.{holder-only}
 use Rattle.work.specs.declared.Work.{Work}
-use Rattle.work.specs.Table.{numberOf, indexOk}
+use Rattle.table.specs.Table.{numberOf, indexOk}
 use Rattle.work.specs.Entries.{wellShaped, finished}
 use Rattle.making.specs.Run.{allStores}
 use Rattle.making.specs.Made.{workWith}

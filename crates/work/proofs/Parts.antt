@@ -3,7 +3,7 @@
 use mathlib.Core.Path.{_≡_, refl}
 use mathlib.Core.List.{List}
 use Prim.Native.Nat.{ℕ}
-use Rattle.work.specs.Table.{putOf, runsOf}
+use Rattle.work.specs.Entries.{putOf, runsOf}
 use Rattle.work.specs.Entries.{wellShaped, leftOf, storeNumber, storeImage}
 use Rattle.work.specs.Parts.{storing, standing}
 use Rattle.work.specs.declared.Work.{Work}

@@ -14,10 +14,11 @@ use lib.Seq.{sets, getD-append-add, getD-set-same, getD-set-other, take-append-l
 use Rattle.layout.specs.Sizes.{markAt}
 use Rattle.layout.specs.Words.{zeros}
 use Rattle.layout.proofs.Tab.{length-zeros, getD-zeros}
-use Rattle.work.specs.Table.{put, Run, one, fill, copy, copyFrom, disablingRuns, stashRuns, updateRuns, coldRuns, runsFor, runsOf, total, putFrom, putOf, numberOf}
-use Rattle.work.specs.declared.Kind.{Kind}
-use Rattle.work.specs.declared.Kind.the-variants.{Nothing, Disabling, Stash, Update, ColdBoot}
-use Rattle.work.specs.declared.Put.{Put}
+use Rattle.table.specs.Table.{put, Run, one, fill, copy, copyFrom, disablingRuns, stashRuns, updateRuns, coldRuns, runsFor, total, putFrom, numberOf}
+use Rattle.work.specs.Entries.{runsOf, putOf}
+use Rattle.table.specs.declared.Kind.{Kind}
+use Rattle.table.specs.declared.Kind.the-variants.{Nothing, Disabling, Stash, Update, ColdBoot}
+use Rattle.table.specs.declared.Put.{Put}
 use Rattle.work.specs.declared.Work.{Work}
 
 -- ---- stores as a list

@@ -3,16 +3,14 @@ use Prim.Native.Nat.{ℕ, _+_, _-_, _<_, _≤_}
 use mathlib.Core.Path.{_≡_, refl}
 use mathlib.Core.Bool.{Bool, true, false, cond, _&&_}
 use native.Mathlib.Omega.{arith}
-use borrow.Author.Tests.{ltb-true, leb-true}
-use lib.Dec.{ltb, leb, eqb}
-use Rattle.layout.specs.Sizes.{nodeCount, imageWords, answerMax}
+use borrow.Author.Tests.{leb-true}
+use lib.Dec.{leb, eqb}
+use Rattle.layout.specs.Sizes.{imageWords, answerMax}
 use Rattle.layout.proofs.Cases.{and-left, and-right}
-use Rattle.work.specs.declared.Kind.{Kind}
-use Rattle.work.specs.declared.Kind.the-variants.{Nothing, Disabling, Stash, Update, ColdBoot}
 use Rattle.work.specs.declared.Work.{Work}
-use Rattle.work.specs.Table.{indexOk, numberOf}
+use Rattle.table.specs.Table.{indexOk, numberOf}
 use Rattle.work.specs.Entries.{wellShaped, leftOf, finished}
-use Rattle.work.proofs.Numbers.{number-most}
+use Rattle.table.proofs.Numbers.{number-most}
 
 module _ (w : Work) (shaped : wellShaped w ≡ true) where
   pub shaped-index : indexOk (w .kind) ≡ true
@@ -51,22 +49,3 @@ module _ (w : Work) (left : 0 < leftOf w) where
   -- so its position may move one on
   pub left-below : w .position < imageWords + 1
   left-below = omega (arith, left-position, number-most (w .kind))
-
--- what the put function of a kind requires for store k
-abbrev pub Within : Kind → ℕ → Type 0
-Within Nothing k = ⊥
-Within Disabling k = k < numberOf Disabling
-Within (Stash s) k = (s .node < nodeCount) × ((s .holder < nodeCount) × (k < numberOf (Stash s)))
-Within (Update root) k = (root < nodeCount) × (k < numberOf (Update root))
-Within ColdBoot k = k < numberOf ColdBoot
-
-pub within : (kind : Kind) (k : ℕ) → indexOk kind ≡ true → k < numberOf kind → Within kind k
-unfolding indexOk numberOf
-within Nothing k i h = omega arith
-within Disabling k i h = h
-within (Stash s) k i h = (
-  ltb-true (s .node) nodeCount (and-left (ltb (s .node) nodeCount) (ltb (s .holder) nodeCount) i),
-  (ltb-true (s .holder) nodeCount (and-right (ltb (s .node) nodeCount) (ltb (s .holder) nodeCount) i), h),
-)
-within (Update root) k i h = (ltb-true root nodeCount i, h)
-within ColdBoot k i h = h

@@ -8,11 +8,20 @@ use lib.Dec.{leb, ltb, eqb}
 use lib.Seq.{paste}
 use Rattle.layout.specs.Sizes.{imageWords, answerMax}
 use Rattle.layout.specs.Refusals.{wrongImage, storesLeft, shortBuffer, noStoreLeft}
-use Rattle.work.specs.Table.{numberOf, putOf, indexOk}
-use Rattle.work.specs.declared.Kind.{Kind}
+use Rattle.table.specs.Table.{Run, runsFor, putFrom, numberOf, indexOk}
+use Rattle.table.specs.declared.Kind.{Kind}
+use Rattle.table.specs.declared.Put.{Put}
 use Rattle.work.specs.declared.Work.{Work}
 use Rattle.work.specs.declared.Stored.{Stored}
 use Rattle.work.specs.declared.Answered.{Answered}
+
+unfoldable pub runsOf : Work → List Run
+runsOf w = runsFor (w .kind) (w .register) (w .journey) (w .node) (w .secret)
+
+-- the next store of a work: "one word takes one value, both fixed at opening"
+unfoldable pub putOf : Work → Put
+unfolding runsOf
+putOf w = putFrom 0 (runsOf w) (w .position)
 
 -- document 01's "well shaped": indices below the number of nodes, an answer not longer than the longest, a position within the number of stores
 unfoldable pub wellShaped : Work → Bool

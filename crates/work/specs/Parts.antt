@@ -1,7 +1,7 @@
 -- A work from its parts, where they stand apart: what a store looks at, which is all but the answer's bytes. Assumes nothing.
 use Prim.Native.Nat.{ℕ}
 use mathlib.Core.List.{List, []}
-use Rattle.work.specs.declared.Kind.{Kind}
+use Rattle.table.specs.declared.Kind.{Kind}
 use Rattle.work.specs.declared.Work.{Work}
 
 -- kind, position, answer's length and the four fields of prepared words; of the answer no byte

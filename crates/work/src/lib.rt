@@ -1,37 +1,17 @@
 // A piece of work: what it will store, how far it is, and its prepared answer.
 pub mod lent;
-mod puts;
 
 ghost use mathlib.Core.Path.{_≡_};
 ghost use mathlib.Core.Bool.{cond};
 ghost use lib.Dec.{eqb};
-ghost use Rattle.work.specs.Table.{numberOf, indexOk};
 ghost use Rattle.work.specs.Entries.{finished, leftOf, storeResult, storeImage, answerResult, answerBuffer};
-use crate::puts::COLD_STORES;
-use crate::puts::DISABLING_STORES;
-use crate::puts::STASH_STORES;
-use crate::puts::UPDATE_STORES;
 use layout::ANSWER_MAX;
 use layout::NODE_WORDS;
-use layout::NODES;
 use layout::REGISTER_WORDS;
 use layout::refusals::SHORT_BUFFER;
 use layout::refusals::STORES_LEFT;
-
-// Where a stash stores: the new node, and the node that held the default handle.
-pub struct StashAt {
-    pub node: usize,
-    pub holder: usize,
-}
-
-// An update carries its root's index: a well-formed image's root may be any node.
-pub enum Kind {
-    Nothing,
-    Disabling,
-    Stash(StashAt),
-    Update(usize),
-    ColdBoot,
-}
+use table::Kind;
+use table::number;
 
 // `register` is PCR31 of a stash and PCR2 of a boot, `journey` PCR3 of a boot, `node` a stash's new
 // node or a boot's root. `position` counts the stores made.
@@ -46,12 +26,6 @@ pub struct Work {
     pub answer_len: usize,
 }
 
-// One store: a word and its value.
-pub struct Put {
-    pub address: usize,
-    pub value: u32,
-}
-
 // What a store answers: its number, and the work one store on, or as it was where it is refused.
 pub struct Stored {
     pub number: u32,
@@ -62,32 +36,6 @@ pub struct Stored {
 pub struct Answered {
     pub number: u32,
     pub written: usize,
-}
-
-// The number of stores of a kind of work.
-pub(crate) fn number(kind: Kind) -> usize
-    ensures { λ r. ⌜ r ≡ numberOf kind ⌝ }
-{
-    match kind {
-        Kind::Nothing => 0,
-        Kind::Disabling => DISABLING_STORES,
-        Kind::Stash(_) => STASH_STORES,
-        Kind::Update(_) => UPDATE_STORES,
-        Kind::ColdBoot => COLD_STORES,
-    }
-}
-
-// Whether no index of a kind is beyond the nodes.
-pub(crate) fn index_ok(kind: Kind) -> bool
-    ensures { λ r. ⌜ r ≡ indexOk kind ⌝ }
-{
-    match kind {
-        Kind::Nothing => true,
-        Kind::Disabling => true,
-        Kind::Stash(at) => at.node < NODES && at.holder < NODES,
-        Kind::Update(root) => root < NODES,
-        Kind::ColdBoot => true,
-    }
 }
 
 // How many stores on a store of that number brings a work.

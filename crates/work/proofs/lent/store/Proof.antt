@@ -1,10 +1,13 @@
 -- `store` meets its contract: a number 0 means an image of the right size and a store left (Numbered, `allowed`), so the next store may be
--- asked for and its address is within the image; another number leaves the image, as `storeImage` does. Assumes nothing.
+-- asked for, is the table's (`store-at`) and its address is within the image; another number leaves the image, as `storeImage` does. Assumes nothing.
 use native.Mathlib.Omega.{arith}
-use mathlib.Core.Path.{sym, _∙_}
+use mathlib.Core.Path.{_≡_, sym, _∙_}
+use mathlib.Core.List.{List}
+use Prim.Native.Nat.{ℕ}
 use borrow.Author.Tests.{eq-eqb, ne-eqb}
-use Rattle.work.specs.Table.{putOf, runsOf}
-use Rattle.work.specs.Entries.{storeNumber, storeImage}
+use Rattle.table.specs.Table.{storeAt}
+use Rattle.table.proofs.Within.{store-at}
+use Rattle.work.specs.Entries.{runsOf, putOf, storeNumber, storeImage}
 use Rattle.work.specs.Parts.{storing}
 use Rattle.work.specs.declared.Work.{Work}
 use Rattle.work.proofs.Shape.{shaped-index, left-shaped, left-position}
@@ -24,10 +27,7 @@ store-number-requires : tie.Need-store-number-requires
 store-number-requires c κs = search needs
 
 put-at-requires : tie.Need-put-at-requires
-put-at-requires c κs =
-    let c8 = c .before .before .before .before .before .before .before .before in
-    let g = allowed (work (c8)) (c8 .args .image .now) (sym (c .before .store-number .ensures ∙ number-standing (work (c8)) _) ∙ c .if1 .taken) in
-    (shaped-index (work (c8)) (left-shaped (work (c8)) (g .some)), left-position (work (c8)) (g .some))
+put-at-requires c κs = search needs
 
 mul-image : tie.Need-mul-image
 mul-image c = search needs
@@ -42,17 +42,21 @@ slice-write-image c =
 same-length : tie.Need-same-length
 same-length c = search needs
 
+-- the store that was asked for is the work's next one
+next-put : (w : Work) (image : List ℕ) → storeNumber w image ≡ 0 → storeAt (w .kind) (w .position) (w .register) (w .journey) (w .node) (w .secret) ≡ putOf w
+unfolding putOf runsOf
+next-put w image h =
+    let some = allowed w image h .some in
+    store-at (w .kind) (w .position) (w .register) (w .journey) (w .node) (w .secret) (shaped-index w (left-shaped w some)) (left-position w some)
+
 returns : tie.Need-returns
-unfolding storeImage putOf runsOf
+unfolding storeImage
 returns c =
     let c2 = c .before .before in
-    let c9 = c2 .before .before .before .before .before .before .before in (
+    let c9 = c2 .before .before .before .before .before .before .before in
+    let made = sym (c2 .store-number .ensures ∙ number-standing (work (c9)) _) ∙ c .before .if1 .taken in (
       c2 .store-number .ensures ∙ number-standing (work (c9)) _,
-      rw (
-        eq-eqb (storeNumber (work (c9)) (c9 .args .image .now)) 0 (sym (c2 .store-number .ensures ∙ number-standing (work (c9)) _)
-            ∙ c .before .if1 .taken),
-        ← (c .put-at .ensures .0),
-      ),
+      rw (eq-eqb (storeNumber (work (c9)) (c9 .args .image .now)) 0 made, ← (next-put (work (c9)) (c9 .args .image .now) made), ← (c .put-at .ensures .0)),
     )
 
 same-length-2 : tie.Need-same-length-2

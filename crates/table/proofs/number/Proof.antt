@@ -1,9 +1,9 @@
 -- One case for each kind of work.
 
-use Rattle.work.specs.Table.{numberOf}
+use Rattle.table.specs.Table.{numberOf}
 use borrow.Author.Needs.{needs}
-use Rattle.work.proofs.number.Statement.{statement}
-use Rattle.work.proofs.number.Tie as tie
+use Rattle.table.proofs.number.Statement.{statement}
+use Rattle.table.proofs.number.Tie as tie
 
 enum-told : tie.Need-enum-told
 enum-told c = search needs

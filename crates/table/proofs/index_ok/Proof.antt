@@ -1,10 +1,10 @@
 -- One case for each kind of work.
 
-use Rattle.work.specs.Table.{indexOk}
+use Rattle.table.specs.Table.{indexOk}
 use Rattle.layout.proofs.Cases.{cases}
 use borrow.Author.Needs.{needs}
-use Rattle.work.proofs.index_ok.Statement.{statement}
-use Rattle.work.proofs.index_ok.Tie as tie
+use Rattle.table.proofs.index_ok.Statement.{statement}
+use Rattle.table.proofs.index_ok.Tie as tie
 
 enum-told : tie.Need-enum-told
 enum-told c = search needs

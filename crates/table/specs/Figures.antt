@@ -1,9 +1,9 @@
 -- Document 01's numbers of stores as numerals: what a change of the store table edits by hand. Nothing rests on them. Assumes nothing.
 use Prim.Native.Nat.{ℕ}
 use mathlib.Core.Path.{_≡_}
-use Rattle.work.specs.Table.{numberOf}
-use Rattle.work.specs.declared.Kind.the-variants.{Nothing, Disabling, Stash, Update, ColdBoot}
-use Rattle.work.specs.declared.StashAt.{StashAt}
+use Rattle.table.specs.Table.{numberOf}
+use Rattle.table.specs.declared.Kind.the-variants.{Nothing, Disabling, Stash, Update, ColdBoot}
+use Rattle.table.specs.declared.StashAt.{StashAt}
 
 pub record StoreFigures : Type 0 where
   pub stash : (s : StashAt) → numberOf (Stash s) ≡ 53

@@ -1,9 +1,9 @@
--- `put_at` meets its contract: a kind's row is the one that its arm calls, and what the row requires is `within` of Shape. Assumes nothing.
-use Rattle.work.specs.Table.{numberOf}
-use Rattle.work.proofs.Shape.{within}
+-- `row_put` meets its contract: a kind's row is the one that its arm calls, and what the row requires is `within` of Within. Assumes nothing.
+use Rattle.table.specs.Table.{numberOf}
+use Rattle.table.proofs.Within.{within}
 use borrow.Author.Needs.{needs}
-use Rattle.work.proofs.lent.put_at.Statement.{statement}
-use Rattle.work.proofs.lent.put_at.Tie as tie
+use Rattle.table.proofs.row_put.Statement.{statement}
+use Rattle.table.proofs.row_put.Tie as tie
 
 enum-told : tie.Need-enum-told
 enum-told c = search needs
@@ -63,8 +63,8 @@ returns-4 c = (rw (c .before .before .kind2 .given .1) (c .update-put .ensures .
 returns-5 : tie.Need-returns-5
 returns-5 c = (rw (c .before .enum-told3 .given .1) (c .cold-put .ensures .0), c .cold-put .ensures .1)
 
-pub put-at-spec : {M : Type 1} → statement M
-put-at-spec =
+pub row-put-spec : {M : Type 1} → statement M
+row-put-spec =
     tie.close
     (tie.spec
     enum-told

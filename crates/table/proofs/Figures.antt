@@ -1,7 +1,7 @@
 -- The numbers of stores, by computing. Assumes nothing.
 use mathlib.Core.Path.{refl}
-use Rattle.work.specs.Table.{numberOf}
-use Rattle.work.specs.Figures.{StoreFigures}
+use Rattle.table.specs.Table.{numberOf}
+use Rattle.table.specs.Figures.{StoreFigures}
 
 pub store-figures : StoreFigures
 unfolding numberOf

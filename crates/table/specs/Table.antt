@@ -5,11 +5,10 @@ use mathlib.Core.List.{List, [], _∷_}
 use lib.ListN.{getD}
 use lib.Dec.{ltb}
 use Rattle.layout.specs.Sizes.{nodeCount, nodeWords, registerCount, registerWords, markAt, attestationAt, secretAt, registerAt, nodeAt, currentRegister, journeyRegister, stashRegister, handleAt, handleWords, currentAt, cumulativeAt, retiredWord}
-use Rattle.work.specs.declared.Kind.{Kind}
-use Rattle.work.specs.declared.Kind.the-variants.{Nothing, Disabling, Stash, Update, ColdBoot}
-use Rattle.work.specs.declared.StashAt.{StashAt}
-use Rattle.work.specs.declared.Work.{Work}
-use Rattle.work.specs.declared.Put.{Put}
+use Rattle.table.specs.declared.Kind.{Kind}
+use Rattle.table.specs.declared.Kind.the-variants.{Nothing, Disabling, Stash, Update, ColdBoot}
+use Rattle.table.specs.declared.StashAt.{StashAt}
+use Rattle.table.specs.declared.Put.{Put}
 
 abbrev pub put : ℕ → ℕ → Put
 put a v = record { address = a; value = v }
@@ -100,14 +99,6 @@ putFrom n (r ∷ rs) k = cond (ltb k (n + r .count)) (r .store (k - n)) (putFrom
 unfoldable pub numberOf : Kind → ℕ
 numberOf k = total (runsFor k [] [] [] [])
 
-unfoldable pub runsOf : Work → List Run
-runsOf w = runsFor (w .kind) (w .register) (w .journey) (w .node) (w .secret)
-
--- the next store of a work: "one word takes one value, both fixed at opening"
-unfoldable pub putOf : Work → Put
-unfolding runsOf
-putOf w = putFrom 0 (runsOf w) (w .position)
-
 -- no index of a kind is beyond the nodes
 unfoldable pub indexOk : Kind → Bool
 indexOk Nothing = true
@@ -115,3 +106,8 @@ indexOk Disabling = true
 indexOk (Stash s) = ltb (s .node) nodeCount && ltb (s .holder) nodeCount
 indexOk (Update root) = ltb root nodeCount
 indexOk ColdBoot = true
+
+-- store k of a kind, with the prepared words; a kind with an index beyond the nodes has none, and neither is there one past the number
+unfoldable pub storeAt : Kind → ℕ → List ℕ → List ℕ → List ℕ → List ℕ → Put
+storeAt kind k register journey node secret =
+    cond (indexOk kind && ltb k (numberOf kind)) (putFrom 0 (runsFor kind register journey node secret) k) (put 0 0)

@@ -5,7 +5,7 @@
 ghost use mathlib.Core.Path.{_≡_};
 ghost use Prim.Native.Nat.{_<_};
 ghost use Rattle.layout.specs.Sizes.{nodeCount, imageWords};
-ghost use Rattle.work.specs.Table.{total, putFrom, stashRuns, disablingRuns, updateRuns, coldRuns};
+ghost use Rattle.table.specs.Table.{total, putFrom, stashRuns, disablingRuns, updateRuns, coldRuns};
 use crate::Put;
 use crate::StashAt;
 use layout::ATTESTATION_AT;

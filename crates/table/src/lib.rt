@@ -1,0 +1,115 @@
+// The store table (document 01, "Work, one word at a time"): the kinds of work, how many stores each has,
+// and the word and the value of each store.
+mod puts;
+
+ghost use mathlib.Core.Path.{_≡_};
+ghost use mathlib.Core.Bool.{true};
+ghost use Prim.Native.Nat.{_<_};
+ghost use Rattle.layout.specs.Sizes.{imageWords};
+ghost use Rattle.table.specs.Table.{numberOf, indexOk, putFrom, runsFor, storeAt};
+use crate::puts::COLD_STORES;
+use crate::puts::DISABLING_STORES;
+use crate::puts::STASH_STORES;
+use crate::puts::UPDATE_STORES;
+use crate::puts::cold_put;
+use crate::puts::disabling_put;
+use crate::puts::stash_put;
+use crate::puts::update_put;
+use layout::NODES;
+
+// Where a stash stores: the new node, and the node that held the default handle.
+pub struct StashAt {
+    pub node: usize,
+    pub holder: usize,
+}
+
+// An update carries its root's index: a well-formed image's root may be any node.
+pub enum Kind {
+    Nothing,
+    Disabling,
+    Stash(StashAt),
+    Update(usize),
+    ColdBoot,
+}
+
+// One store: a word and its value.
+pub struct Put {
+    pub address: usize,
+    pub value: u32,
+}
+
+// The number of stores of a kind of work.
+pub fn number(kind: Kind) -> usize
+    ensures { λ r. ⌜ r ≡ numberOf kind ⌝ }
+{
+    match kind {
+        Kind::Nothing => 0,
+        Kind::Disabling => DISABLING_STORES,
+        Kind::Stash(_) => STASH_STORES,
+        Kind::Update(_) => UPDATE_STORES,
+        Kind::ColdBoot => COLD_STORES,
+    }
+}
+
+// Whether no index of a kind is beyond the nodes.
+pub fn index_ok(kind: Kind) -> bool
+    ensures { λ r. ⌜ r ≡ indexOk kind ⌝ }
+{
+    match kind {
+        Kind::Nothing => true,
+        Kind::Disabling => true,
+        Kind::Stash(at) => at.node < NODES && at.holder < NODES,
+        Kind::Update(root) => root < NODES,
+        Kind::ColdBoot => true,
+    }
+}
+
+// Store k of a kind of work that has it.
+fn row_put<'a>(
+    kind: Kind,
+    k: usize,
+    register: &'a [u32],
+    journey: &'a [u32],
+    node: &'a [u32],
+    secret: &'a [u32],
+) -> Put
+    requires { ⌜ indexOk kind ≡ true ⌝ }
+    requires { ⌜ k < numberOf kind ⌝ }
+    ensures { λ r. ⌜ r ≡ putFrom 0 (runsFor kind (now (register .entry)) (now (journey .entry)) (now (node .entry)) (now (secret .entry))) k ⌝ }
+    ensures { λ r. ⌜ r .address < imageWords ⌝ }
+{
+    match kind {
+        Kind::Nothing => Put {
+            address: 0,
+            value: 0,
+        },
+        Kind::Disabling => disabling_put(k),
+        Kind::Stash(at) => stash_put(at, register, node, k),
+        Kind::Update(root) => update_put(root, register, journey, node, secret, k),
+        Kind::ColdBoot => cold_put(register, journey, node, secret, k),
+    }
+}
+
+// Store k of a kind of work; of a kind with an index beyond the nodes, or past its last store, a store
+// that nobody makes.
+pub fn put_at<'a>(
+    kind: Kind,
+    k: usize,
+    register: &'a [u32],
+    journey: &'a [u32],
+    node: &'a [u32],
+    secret: &'a [u32],
+) -> Put
+    ensures { λ r. ⌜ r ≡ storeAt kind k (now (register .entry)) (now (journey .entry)) (now (node .entry)) (now (secret .entry)) ⌝ }
+    ensures { λ r. ⌜ r .address < imageWords ⌝ }
+{
+    if index_ok(kind) {
+        if k < number(kind) {
+            return row_put(kind, k, register, journey, node, secret);
+        }
+    }
+    Put {
+        address: 0,
+        value: 0,
+    }
+}
