@@ -13,7 +13,7 @@ use table::number;
 use table::put_at;
 
 // Whether a work's indices, answer's length and position are within their bounds.
-pub fn shaped(kind: Kind, position: usize, answer_len: usize) -> bool
+pub(crate) fn shaped(kind: Kind, position: usize, answer_len: usize) -> bool
     ensures { λ r. ⌜ r ≡ wellShaped (standing kind position «answer_len») ⌝ }
 {
     index_ok(kind) && (answer_len <= ANSWER_MAX && position <= number(kind))

@@ -4,7 +4,7 @@ pub mod lent;
 ghost use mathlib.Core.Path.{_≡_};
 ghost use mathlib.Core.Bool.{cond};
 ghost use lib.Dec.{eqb};
-ghost use Rattle.work.specs.Entries.{finished, leftOf, storeResult, storeImage, answerResult, answerBuffer};
+ghost use Rattle.work.specs.Entries.{finished, leftOf, storeNumber, storeResult, storeImage, answerResult, answerBuffer};
 use layout::ANSWER_MAX;
 use layout::NODE_WORDS;
 use layout::REGISTER_WORDS;
@@ -57,10 +57,10 @@ impl Work {
         lent::left(kind, self.position, self.answer_len)
     }
 
-    // One store. Refused, with nothing stored: 1, an image of the wrong size; then 9, no store left.
-    // It has one exit and lends the prepared words alone, so that the answer's length costs nothing.
-    pub fn store(self, image: &mut [u32]) -> Stored
-        ensures { λ r. ⌜ r ≡ storeResult self (now (image .entry)) ⌝ }
+    // The next store into the image; its number. It lends the prepared words alone, so that the answer's
+    // length costs nothing.
+    fn put_next(self, image: &mut [u32]) -> u32
+        ensures { λ r. ⌜ r ≡ storeNumber self (now (image .entry)) ⌝ }
         ensures { λ r. ⌜ now (image .exit) ≡ storeImage self (now (image .entry)) ⌝ }
     {
         let kind = self.kind;
@@ -68,7 +68,7 @@ impl Work {
         let journey = self.journey;
         let node = self.node;
         let secret = self.secret;
-        let number = lent::store(
+        lent::store(
             kind,
             self.position,
             self.answer_len,
@@ -77,7 +77,15 @@ impl Work {
             &node,
             &secret,
             image,
-        );
+        )
+    }
+
+    // One store. Refused, with nothing stored: 1, an image of the wrong size; then 9, no store left.
+    pub fn store(self, image: &mut [u32]) -> Stored
+        ensures { λ r. ⌜ r ≡ storeResult self (now (image .entry)) ⌝ }
+        ensures { λ r. ⌜ now (image .exit) ≡ storeImage self (now (image .entry)) ⌝ }
+    {
+        let number = self.put_next(image);
         let mut moved = self;
         moved.position = self.position + step(number);
         Stored {
