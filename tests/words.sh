@@ -18,7 +18,7 @@ lines() { # SCRIPT WORDS..
     echo "$(wc -l <out) $(wc -l <err) status $status"
 }
 
-for script in answer.sh engines.sh campaign.sh definitions.sh spec-lines.sh; do
+for script in answer.sh engines.sh campaign.sh definitions.sh spec-lines.sh spec-names.sh; do
     expect "$script --help: status 0" 'status 0' "$(lines "$script" --help | cut -d' ' -f3-)"
     expect "$script --help: the usage" "usage: tests/$script" "$(head -n 1 out | cut -d' ' -f-2)"
     expect "$script: an unknown word" '0 1 status 2' "$(lines "$script" --chekc)"

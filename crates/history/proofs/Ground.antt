@@ -18,7 +18,7 @@ use Rattle.tree.specs.Nodes.{treeIn}
 use Rattle.table.specs.Table.{numberOf, indexOk}
 use Rattle.table.specs.declared.Put.{Put}
 use Rattle.work.proofs.Plans.{apply, length-apply}
-use Rattle.opening.specs.Tasks.{Request, BootInputs, Task, noStores, disableCommand, update, Ruling, refused, accepted, View}
+use Rattle.opening.specs.Tasks.{Request, BootInputs, Task, noStores, keptBoot, disableCommand, update, Ruling, refused, accepted, View}
 use Rattle.opening.specs.Rules.{refuses, decide, Command, stashMeasurement, commandOf, declined, served, commandRules, requestRules, requestRuling, updateTask}
 use Rattle.opening.specs.Works.{factsOf}
 use Rattle.opening.proofs.Decided.{commands, NoneApply, decided, negated, short}
@@ -308,6 +308,16 @@ fits-boot h t u v b = go (isOff h t) refl v
     kept-torn : isOff h t ≡ false → t ≡ false
     kept-torn e = left-false t (any disables h) (ap not e)
 
+    -- a boot that disables nothing, while on
+    whole : (tk : Task) → isOff h t ≡ false → Allowed (stateOf h .chain) tk → (disables tk ≡ true → ⊥) → Fits h t u tk
+    whole tk e a n =
+        record {
+          rest = λ z. inr (kept-torn e);
+          torn = λ q. absurd (true≢false (sym q ∙ kept-torn e));
+          allowed = λ q. a;
+          off = λ q z. absurd (n z);
+        }
+
     go : (o : Bool) → isOff h t ≡ o → (w : Bool) → FitsRuling h t u true (accepted (updateTask (not o) w b) [])
     go true e w = (
       record {
@@ -319,23 +329,5 @@ fits-boot h t u v b = go (isOff h t) refl v
       zero-le,
       refl,
     )
-    go false e true = (
-      record {
-        rest = λ z. inr (kept-torn e);
-        torn = λ q. absurd (true≢false (sym q ∙ kept-torn e));
-        allowed = λ q. tt;
-        off = λ q z. absurd (false≢true z);
-      },
-      zero-le,
-      refl,
-    )
-    go false e false = (
-      record {
-        rest = λ z. inr (kept-torn e);
-        torn = λ q. absurd (true≢false (sym q ∙ kept-torn e));
-        allowed = λ q. tt;
-        off = λ q z. absurd (false≢true z);
-      },
-      zero-le,
-      refl,
-    )
+    go false e true = (whole (update b) e tt (λ z. false≢true z), zero-le, refl)
+    go false e false = (whole keptBoot e tt (λ z. false≢true z), zero-le, refl)
