@@ -1,6 +1,6 @@
--- What an operation of the driver may take for granted, and what it keeps. Assumes nothing.
+-- What is known of an operation that was read. Assumes nothing.
 use Prim.Native.Nat.{ℕ, _≤_, _<_}
-use Rattle.driver.specs.declared.state.Progress.{Progress}
+use Rattle.driver.specs.declared.input.Operation.{Operation}
 
 -- the most words that are lent, and the most bytes of the input that are used
 abbrev pub memoryWords : ℕ
@@ -9,12 +9,21 @@ memoryWords = 4096
 abbrev pub inputBytes : ℕ
 inputBytes = 1048576
 
--- the operation stands where the input may have one, and the image that is lent within the memory
-pub record Ready (s : Progress) : Type 0 where
-  pub early : s .at < inputBytes
-  pub lent : s .words ≤ memoryWords
+-- its strings lie one behind the other before the next operation, which stands further on; a buffer and an image are not too long
+pub record Formed (at : ℕ) (o : Operation) : Type 0 where
+  pub further : at < o .end
+  pub first : o .first ≤ o .middle
+  pub middle : o .middle ≤ o .second
+  pub second : o .second ≤ o .last
+  pub last : o .last ≤ o .end
+  pub size : o .size < 65536
+  pub words : o .words ≤ memoryWords
 
--- the next operation stands further on, and the image that is lent within the memory
-pub record Moved (s r : Progress) : Type 0 where
-  pub further : s .at < r .at
-  pub lent : r .words ≤ memoryWords
+-- its strings lie within an input of n bytes
+pub record Whole (n : ℕ) (o : Operation) : Type 0 where
+  pub first : o .first ≤ o .middle
+  pub middle : o .middle ≤ o .second
+  pub second : o .second ≤ o .last
+  pub last : o .last ≤ n
+  pub size : o .size < 65536
+  pub words : o .words ≤ memoryWords

@@ -1,45 +1,205 @@
-// Reading an operation's arguments.
+// Reading an operation: its letter and its arguments.
+ghost use mathlib.Core.Path.{_≡_};
 ghost use Prim.Native.Nat.{_+_, _*_, _<_, _≤_};
+ghost use lib.ListN.{length};
+ghost use Rattle.driver.specs.Run.{inputBytes, Formed, Whole};
+use crate::state::MEMORY_WORDS;
+use machine::ANSWER;
+use machine::COLD_BOOT;
+use machine::POWER_CUT;
+use machine::REQUEST;
+use machine::STORE;
+use machine::UPDATE_BOOT;
 use slices::little_endian::byte;
 use slices::little_endian::read32;
 
+// The operations that are no act of the machine, after the machine's numbers.
+pub const LEND: u8 = 6;
+
+pub const LEFT: u8 = 7;
+
+pub const SET: u8 = 8;
+
+pub const DUMP: u8 = 9;
+
+pub const STOP: u8 = 10;
+
+// An operation: the machine's number of its act or one of the above, and where the next one stands.
+// Two byte strings, from `first` to `middle` and from `second` to `last`: a boot's digest and secret, a
+// request's handoff table and bytes, an image's words. `code` is a request's or the part that is set,
+// `number` the count of stores or the value that is set, `size` that of an answer's buffer, `words` that
+// of the image that is lent.
+pub(crate) struct Operation {
+    pub kind: u8,
+    pub end: usize,
+    pub first: usize,
+    pub middle: usize,
+    pub second: usize,
+    pub last: usize,
+    pub code: u32,
+    pub caller: u32,
+    pub verdict: bool,
+    pub number: usize,
+    pub size: usize,
+    pub words: usize,
+}
+
+// An operation with no arguments.
+fn bare(kind: u8, at: usize, end: usize) -> Operation
+    requires { ⌜ at < end ⌝ }
+    ensures { λ r. ⌜ Formed at r ⌝ }
+    ensures { λ r. ⌜ r .end ≡ end ⌝ }
+{
+    Operation {
+        kind,
+        end,
+        first: 0,
+        middle: 0,
+        second: 0,
+        last: 0,
+        code: 0,
+        caller: 0,
+        verdict: false,
+        number: 0,
+        size: 0,
+        words: 0,
+    }
+}
+
 // A byte string's length, two bytes.
-pub(crate) fn string_length(input: &[u8], at: usize) -> usize
+fn string_length(input: &[u8], at: usize) -> usize
     ensures { λ r. ⌜ r < 65536 ⌝ }
 {
     byte(input, at, 0) as usize + 256 * byte(input, at, 1) as usize
 }
 
 // A number of eight bytes.
-pub(crate) fn read64(input: &[u8], at: usize) -> usize
+fn read64(input: &[u8], at: usize) -> usize
     requires { ⌜ at < 2097152 ⌝ }
 {
     read32(input, at) as usize + 4294967296 * read32(input, at + 4) as usize
 }
 
-// Two byte strings: the first from `first` to `middle`, the second from `second` to `end`.
-pub(crate) struct Two {
-    pub first: usize,
-    pub middle: usize,
-    pub second: usize,
-    pub end: usize,
+// Two byte strings from an index on, each after its length, and `more` bytes behind them.
+fn with_strings(kind: u8, input: &[u8], at: usize, from: usize, more: usize) -> Operation
+    requires { ⌜ (at ≤ from) × (from < 2097152) × (more ≤ 1) ⌝ }
+    ensures { λ r. ⌜ Formed at r ⌝ }
+{
+    let first = from + 2;
+    let middle = first + string_length(input, from);
+    let second = middle + 2;
+    let last = second + string_length(input, middle);
+    let end = last + more;
+    let mut read = bare(kind, at, end);
+    read.first = first;
+    read.middle = middle;
+    read.second = second;
+    read.last = last;
+    read
 }
 
-// The two byte strings from an index on, each after its length. They are whole where `end` is within
-// the input.
-pub(crate) fn two_strings(input: &[u8], at: usize) -> Two
-    requires { ⌜ at < 2097152 ⌝ }
-    ensures { λ r. ⌜ (at ≤ r .first) × (r .first ≤ r .middle) × (r .middle ≤ r .second) × (r .second ≤ r .end) ⌝ }
-    ensures { λ r. ⌜ r .end < at + 2 * 65538 ⌝ }
+// A boot, cold or update: the digest and the secret, and then ROM's verdict where there is one.
+fn boot(kind: u8, input: &[u8], at: usize, more: usize) -> Operation
+    requires { ⌜ (at < inputBytes) × (more ≤ 1) ⌝ }
+    ensures { λ r. ⌜ Formed at r ⌝ }
 {
-    let first = at + 2;
-    let middle = first + string_length(input, at);
-    let second = middle + 2;
-    let end = second + string_length(input, middle);
-    Two {
-        first,
-        middle,
-        second,
-        end,
+    let mut read = with_strings(kind, input, at, at + 1, more);
+    read.verdict = byte(input, read.last, 0) == 1;
+    read
+}
+
+// A request: code, caller and verdict, then the handoff table and the request.
+fn request(input: &[u8], at: usize) -> Operation
+    requires { ⌜ at < inputBytes ⌝ }
+    ensures { λ r. ⌜ Formed at r ⌝ }
+{
+    let mut read = with_strings(REQUEST, input, at, at + 10, 0);
+    read.code = read32(input, at + 1);
+    read.caller = read32(input, at + 5);
+    read.verdict = byte(input, at, 9) == 1;
+    read
+}
+
+// An image: its word count and its words. One that is too long ends the run.
+fn image(input: &[u8], at: usize) -> Operation
+    requires { ⌜ (at < length (now input)) × (at < inputBytes) ⌝ }
+    ensures { λ r. ⌜ Formed at r ⌝ }
+{
+    let count = read32(input, at + 1) as usize;
+    if MEMORY_WORDS < count {
+        return bare(STOP, at, input.len());
     }
+    let first = at + 5;
+    let end = first + 4 * count;
+    let mut read = bare(LEND, at, end);
+    read.first = first;
+    read.middle = end;
+    read.second = end;
+    read.last = end;
+    read.words = count;
+    read
+}
+
+// Stores: how many.
+fn stores(input: &[u8], at: usize) -> Operation
+    requires { ⌜ at < inputBytes ⌝ }
+    ensures { λ r. ⌜ Formed at r ⌝ }
+{
+    let mut read = bare(STORE, at, at + 5);
+    read.number = read32(input, at + 1) as usize;
+    read
+}
+
+// An answer: the buffer's size.
+fn answer(input: &[u8], at: usize) -> Operation
+    requires { ⌜ at < inputBytes ⌝ }
+    ensures { λ r. ⌜ Formed at r ⌝ }
+{
+    let mut read = bare(ANSWER, at, at + 3);
+    read.size = string_length(input, at + 1);
+    read
+}
+
+// A part of the work in hand, and its value.
+fn part(input: &[u8], at: usize) -> Operation
+    requires { ⌜ at < inputBytes ⌝ }
+    ensures { λ r. ⌜ Formed at r ⌝ }
+{
+    let mut read = bare(SET, at, at + 10);
+    read.code = byte(input, at, 1) as u32;
+    read.number = read64(input, at + 2);
+    read
+}
+
+// The operation that a letter begins, whether or not the input has it whole.
+fn begun(input: &[u8], at: usize) -> Operation
+    requires { ⌜ (at < length (now input)) × (length (now input) ≤ inputBytes) ⌝ }
+    ensures { λ r. ⌜ Formed at r ⌝ }
+{
+    let letter = input[at];
+    match letter {
+        b'I' => image(input, at),
+        b'C' => boot(COLD_BOOT, input, at, 0),
+        b'U' => boot(UPDATE_BOOT, input, at, 1),
+        b'R' => request(input, at),
+        b'S' => stores(input, at),
+        b'A' => answer(input, at),
+        b'L' => bare(LEFT, at, at + 1),
+        b'X' => bare(POWER_CUT, at, at + 1),
+        b'W' => part(input, at),
+        b'D' => bare(DUMP, at, at + 1),
+        _ => bare(STOP, at, input.len()),
+    }
+}
+
+// The operation at an index. One that the input cuts short ends the run.
+pub(crate) fn read_operation(input: &[u8], at: usize) -> Operation
+    requires { ⌜ (at < length (now input)) × (length (now input) ≤ inputBytes) ⌝ }
+    ensures { λ r. ⌜ (at < r .end) × Whole (length (now (input .entry))) r ⌝ }
+{
+    let read = begun(input, at);
+    if input.len() < read.end {
+        return bare(STOP, at, input.len());
+    }
+    read
 }

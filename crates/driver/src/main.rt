@@ -13,42 +13,45 @@ mod parts;
 mod state;
 
 ghost use mathlib.Core.Path.{_≡_};
-ghost use Prim.Native.Nat.{_<_, _≤_};
+ghost use Prim.Native.Nat.{_≤_};
 ghost use lib.ListN.{length};
-ghost use Rattle.driver.specs.Run.{memoryWords, inputBytes, Ready, Moved};
+ghost use Rattle.driver.specs.Run.{memoryWords, inputBytes, Whole};
+use crate::calls::one_act;
+use crate::calls::stores;
+use crate::input::DUMP;
+use crate::input::Operation;
+use crate::input::read_operation;
+use crate::parts::alone;
+use crate::parts::dump;
+use crate::parts::lent;
 use crate::state::INPUT_BYTES;
 use crate::state::MEMORY_WORDS;
-use crate::state::Progress;
-use crate::state::start;
-use crate::state::stopped;
+use crate::state::Operated;
+use crate::state::none_in_hand;
+use layout::IMAGE_WORDS;
 use libc::STDERR_FILENO;
 use libc::STDIN_FILENO;
-use machine::COLD_BOOT;
-use machine::UPDATE_BOOT;
+use machine::InHand;
+use machine::POWER_CUT;
+use machine::STORE;
 use reading::read_whole;
 
-// One operation.
-fn operation(input: &[u8], memory: &mut [u32], state: Progress) -> Progress
-    requires { ⌜ Ready state ⌝ }
-    requires { ⌜ state .at < length (now input) ⌝ }
-    requires { ⌜ length (now memory) ≡ memoryWords ⌝ }
-    ensures { λ r. ⌜ Moved state r ⌝ }
+// Makes an operation on the image that is lent.
+fn operate(given: Operation, input: &[u8], image: &mut [u32], hand: InHand) -> Operated
+    requires { ⌜ Whole (length (now input)) given ⌝ }
+    requires { ⌜ length (now image) ≤ memoryWords ⌝ }
 {
-    let at = state.at;
-    let letter = input[at];
-    match letter {
-        b'I' => parts::lend(input, memory, state),
-        b'C' => calls::boot(COLD_BOOT, input, memory, state),
-        b'U' => calls::boot(UPDATE_BOOT, input, memory, state),
-        b'R' => calls::request(input, memory, state),
-        b'S' => calls::stores(input, memory, state),
-        b'A' => calls::answer(input, memory, state),
-        b'L' => parts::left(state),
-        b'X' => calls::cut(memory, state),
-        b'W' => parts::set(input, state),
-        b'D' => parts::dump(memory, state),
-        _ => stopped(input, state),
+    let kind = given.kind;
+    if kind == STORE {
+        return stores(given, input, image, hand, given.number);
     }
+    if kind <= POWER_CUT {
+        return one_act(given, input, image, hand);
+    }
+    if kind == DUMP {
+        return dump(image, hand);
+    }
+    alone(given, hand)
 }
 
 // The operations one after another, from an image of zeros, until one gave something that cannot be
@@ -57,13 +60,19 @@ fn run(input: &[u8]) -> bool
     requires { ⌜ length (now input) ≤ inputBytes ⌝ }
 {
     let mut memory = [0u32; MEMORY_WORDS];
-    let mut state = start();
-    while state.at < input.len() {
-        let next = operation(input, &mut memory, state);
-        if !next.written {
+    let mut words = IMAGE_WORDS;
+    let mut hand = none_in_hand();
+    let mut at = 0;
+    while at < input.len() {
+        let given = read_operation(input, at);
+        words = lent(given, input, &mut memory, words);
+        let made = operate(given, input, &mut memory[..words], hand);
+        if !made.written {
             return false;
         }
-        state = next;
+        let after = made.hand;
+        hand = after;
+        at = given.end;
     }
     true
 }
@@ -76,19 +85,29 @@ fn room() -> [u8; INPUT_BYTES]
     [0; INPUT_BYTES]
 }
 
-fn complain(why: &[u8]) {
-    io::write_all(STDERR_FILENO, why);
+fn say_unread() {
+    io::write_all(
+        STDERR_FILENO,
+        b"driver: the input cannot be read: nothing was run\n",
+    );
+}
+
+fn say_unwritten() {
+    io::write_all(
+        STDERR_FILENO,
+        b"driver: the output cannot be written: the run ended there\n",
+    );
 }
 
 fn main() {
     let mut space = room();
     let read = read_whole(STDIN_FILENO, &mut space);
     if !read.whole {
-        complain(b"driver: the input cannot be read: nothing was run\n");
+        say_unread();
         return;
     }
     let n = read.count;
     if !run(&space[..n]) {
-        complain(b"driver: the output cannot be written: the run ended there\n");
+        say_unwritten();
     }
 }

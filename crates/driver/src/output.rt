@@ -6,6 +6,7 @@ ghost use Rattle.driver.specs.Run.{memoryWords};
 use crate::state::MEMORY_WORDS;
 use libc::STDOUT_FILENO;
 use machine::Report;
+use opening::Outcome;
 use opening::works::outcome_number;
 use slices::little_endian::four;
 
@@ -16,7 +17,7 @@ pub const NO_WORK: u32 = 0xFFFFFFFF;
 const IMAGE_BYTES: usize = 4 * MEMORY_WORDS;
 
 // Writes bytes. Like all here that write, it tells whether that was done.
-pub(crate) fn put(bytes: &[u8]) -> bool {
+fn put(bytes: &[u8]) -> bool {
     io::write_all(STDOUT_FILENO, bytes)
 }
 
@@ -35,14 +36,29 @@ pub(crate) fn put_count(n: usize) -> bool {
     put32((n % 4294967296) as u32)
 }
 
-// What an opening reports: its number, and where that is 0 a boot's outcome and the stores left.
-pub(crate) fn put_opening(report: Report) -> bool {
+// Two numbers that are small.
+pub(crate) fn put_counts(first: usize, second: usize) -> bool {
+    put_count(first) && put_count(second)
+}
+
+// A boot that is open: its outcome and the stores left.
+fn put_booted(outcome: Outcome, left: usize) -> bool {
+    put32(0) && put8((outcome_number(outcome) % 256) as u8) && put_count(left)
+}
+
+// An answer: its number and the whole buffer.
+fn put_answer(number: u32, buffer: &[u8]) -> bool {
+    put32(number) && put(buffer)
+}
+
+// What an act reports. An opening's number is 0 where it is accepted, and what it gave stands behind.
+pub(crate) fn put_report(report: Report, buffer: &[u8]) -> bool {
     match report {
         Report::Refused(number) => put32(number),
-        Report::Opened(left) => put32(0) && put_count(left),
-        Report::Booted(outcome, left) => {
-            put32(0) && put8((outcome_number(outcome) % 256) as u8) && put_count(left)
-        }
+        Report::Opened(left) => put_counts(0, left),
+        Report::Booted(outcome, left) => put_booted(outcome, left),
+        Report::Answered(number, _) => put_answer(number, buffer),
+        Report::NoWork => put_answer(NO_WORK, buffer),
         _ => true,
     }
 }

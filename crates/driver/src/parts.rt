@@ -2,15 +2,17 @@
 ghost use mathlib.Core.Path.{_≡_};
 ghost use Prim.Native.Nat.{_<_, _≤_};
 ghost use lib.ListN.{length};
-ghost use Rattle.driver.specs.Run.{memoryWords, Ready, Moved};
-use crate::input::read64;
+ghost use Rattle.driver.specs.Run.{memoryWords, inputBytes, Whole};
+use crate::input::LEFT;
+use crate::input::LEND;
+use crate::input::Operation;
+use crate::input::SET;
 use crate::output::NO_WORK;
 use crate::output::put_count;
 use crate::output::put_image;
 use crate::output::put32;
-use crate::state::MEMORY_WORDS;
-use crate::state::Progress;
-use crate::state::stopped;
+use crate::state::Operated;
+use crate::state::done;
 use machine::InHand;
 use slices::little_endian::read32;
 use table::Kind;
@@ -28,44 +30,24 @@ fn load(input: &[u8], from: usize, memory: &mut [u32], count: usize)
     }
 }
 
-// Lends another image: the work in hand goes.
-pub(crate) fn lend(input: &[u8], memory: &mut [u32], state: Progress) -> Progress
-    requires { ⌜ Ready state ⌝ }
-    requires { ⌜ state .at < length (now input) ⌝ }
-    requires { ⌜ length (now memory) ≡ memoryWords ⌝ }
-    ensures { λ r. ⌜ Moved state r ⌝ }
+// Lends another image if one is given. The number of words that are lent.
+pub(crate) fn lent(given: Operation, input: &[u8], memory: &mut [u32], words: usize) -> usize
+    requires { ⌜ Whole (length (now input)) given ⌝ }
+    requires { ⌜ (length (now input) ≤ inputBytes) × (length (now memory) ≡ memoryWords) × (words ≤ memoryWords) ⌝ }
+    ensures { λ r. ⌜ r ≤ memoryWords ⌝ }
 {
-    let at = state.at;
-    let count = read32(input, at + 1) as usize;
-    if MEMORY_WORDS < count {
-        return stopped(input, state);
+    if given.kind != LEND {
+        return words;
     }
-    let end = at + 5 + 4 * count;
-    if input.len() < end {
-        return stopped(input, state);
-    }
-    load(input, at + 5, memory, count);
-    let mut hand = state.hand;
-    hand.present = false;
-    Progress {
-        at: end,
-        words: count,
-        hand,
-        written: true,
-    }
+    load(input, given.first, memory, given.words);
+    given.words
 }
 
 // Writes the image.
-pub(crate) fn dump(memory: &[u32], state: Progress) -> Progress
-    requires { ⌜ Ready state ⌝ }
-    requires { ⌜ length (now memory) ≡ memoryWords ⌝ }
-    ensures { λ r. ⌜ Moved state r ⌝ }
+pub(crate) fn dump(image: &[u32], hand: InHand) -> Operated
+    requires { ⌜ length (now image) ≤ memoryWords ⌝ }
 {
-    let words = state.words;
-    let mut next = state;
-    next.at = state.at + 1;
-    next.written = put_image(&memory[..words]);
-    next
+    done(hand, put_image(image))
 }
 
 // Writes how many stores the work in hand has left.
@@ -75,17 +57,6 @@ fn put_left(hand: InHand) -> bool {
     }
     let work = hand.work;
     put_count(work.left())
-}
-
-// Asks for the stores left.
-pub(crate) fn left(state: Progress) -> Progress
-    requires { ⌜ Ready state ⌝ }
-    ensures { λ r. ⌜ Moved state r ⌝ }
-{
-    let mut next = state;
-    next.at = state.at + 1;
-    next.written = put_left(state.hand);
-    next
 }
 
 // A kind with another first index, where it has one: a stash's node, an update's root.
@@ -130,46 +101,69 @@ fn with_kind(work: Work, kind: Kind) -> Work {
     }
 }
 
-// A work with one part set: 0 position, 1 first index, 2 second index, 3 answer length.
-fn with_part(work: Work, field: u8, value: usize) -> Work {
-    let kind = work.kind;
-    let mut changed = work;
-    match field {
-        0 => {
-            changed.position = value;
-            return changed;
-        }
-        1 => return with_kind(work, with_first(kind, value)),
-        2 => return with_kind(work, with_second(kind, value)),
-        3 => {
-            changed.answer_len = value;
-            return changed;
-        }
-        _ => return work,
+// A kind with another index, the first or the second.
+fn with_index(kind: Kind, part: u32, value: usize) -> Kind {
+    match part {
+        1 => with_first(kind, value),
+        2 => with_second(kind, value),
+        _ => kind,
     }
 }
 
-// Sets a part of the work in hand. With none in hand that work is not read again, so nothing changes.
-pub(crate) fn set(input: &[u8], state: Progress) -> Progress
-    requires { ⌜ Ready state ⌝ }
-    requires { ⌜ state .at < length (now input) ⌝ }
-    ensures { λ r. ⌜ Moved state r ⌝ }
-{
-    let at = state.at;
-    let end = at + 10;
-    if input.len() < end {
-        return stopped(input, state);
+// A work with another position.
+fn with_position(work: Work, value: usize) -> Work {
+    let mut changed = work;
+    changed.position = value;
+    changed
+}
+
+// A work with another answer length.
+fn with_length(work: Work, value: usize) -> Work {
+    let mut changed = work;
+    changed.answer_len = value;
+    changed
+}
+
+// A work with one part set: 0 position, 1 first index, 2 second index, 3 answer length.
+fn with_part(work: Work, part: u32, value: usize) -> Work {
+    if part == 0 {
+        return with_position(work, value);
     }
-    let field = input[at + 1];
-    let value = read64(input, at + 2);
-    let mut hand = state.hand;
+    if part == 3 {
+        return with_length(work, value);
+    }
+    let kind = work.kind;
+    with_kind(work, with_index(kind, part, value))
+}
+
+// Sets a part of the work in hand. With none in hand that work is not read again, so nothing changes.
+fn set(hand: InHand, part: u32, value: usize) -> Operated {
     let before = hand.work;
-    let work = with_part(before, field, value);
-    hand.work = work;
-    Progress {
-        at: end,
-        words: state.words,
-        hand,
-        written: true,
+    let work = with_part(before, part, value);
+    let mut after = hand;
+    after.work = work;
+    done(after, true)
+}
+
+// The work in hand goes.
+fn gone(hand: InHand) -> Operated {
+    let mut none = hand;
+    none.present = false;
+    done(none, true)
+}
+
+// Asks for the stores left.
+fn left(hand: InHand) -> Operated {
+    done(hand, put_left(hand))
+}
+
+// What is done to the work in hand alone: it goes where another image is lent.
+pub(crate) fn alone(given: Operation, hand: InHand) -> Operated {
+    let kind = given.kind;
+    match kind {
+        LEND => gone(hand),
+        LEFT => left(hand),
+        SET => set(hand, given.code, given.number),
+        _ => done(hand, true),
     }
 }

@@ -1,8 +1,4 @@
-// Where a run stands.
-ghost use Prim.Native.Nat.{_<_, _≤_};
-ghost use lib.ListN.{length};
-ghost use Rattle.driver.specs.Run.{memoryWords, Ready, Moved};
-use layout::IMAGE_WORDS;
+// What an operation leaves.
 use machine::InHand;
 use making::bare_work;
 use table::Kind;
@@ -12,39 +8,22 @@ pub const MEMORY_WORDS: usize = 4096;
 
 pub const INPUT_BYTES: usize = 1048576;
 
-// The next operation's place in the input, the number of words that are lent, the work in hand, and
-// whether all that the last operation gave was written.
-pub struct Progress {
-    pub at: usize,
-    pub words: usize,
+// The work in hand after an operation, and whether all that the operation gave was written.
+pub(crate) struct Operated {
     pub hand: InHand,
     pub written: bool,
 }
 
-// At first the whole image is lent and no work is in hand.
-pub(crate) fn start() -> Progress
-    ensures { λ r. ⌜ r .words ≤ memoryWords ⌝ }
-{
-    let work = bare_work(Kind::Nothing);
-    Progress {
-        at: 0,
-        words: IMAGE_WORDS,
-        hand: InHand {
-            present: false,
-            boot: false,
-            work,
-        },
-        written: true,
-    }
+pub(crate) fn done(hand: InHand, written: bool) -> Operated {
+    Operated { hand, written }
 }
 
-// The run ends: the next operation would stand at the input's end.
-pub(crate) fn stopped(input: &[u8], state: Progress) -> Progress
-    requires { ⌜ Ready state ⌝ }
-    requires { ⌜ state .at < length (now input) ⌝ }
-    ensures { λ r. ⌜ Moved state r ⌝ }
-{
-    let mut last = state;
-    last.at = input.len();
-    last
+// No work in hand.
+pub(crate) fn none_in_hand() -> InHand {
+    let work = bare_work(Kind::Nothing);
+    InHand {
+        present: false,
+        boot: false,
+        work,
+    }
 }

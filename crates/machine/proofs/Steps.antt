@@ -1,15 +1,15 @@
--- What was made, as steps of the machine: a boot's opening; and that a step that no buffer has a part in leaves the buffer as it was. Assumes nothing.
+-- A step that no buffer has a part in leaves the buffer as it was. Assumes nothing.
 use mathlib.Core.Path.{_≡_, refl, sym, ap, _∙_}
 use Prim.Native.Nat.{ℕ}
 use native.Mathlib.Omega.{arith}
+use mathlib.Core.Bool.{Bool, true, false, cond}
 use mathlib.Core.List.{List, [], _∷_}
+use mathlib.Core.Option.{some}
+use lib.Dec.{eqb}
 use lib.ListN.{length}
 use Rattle.work.specs.declared.Work.{Work}
-use Rattle.opening.specs.declared.BootStatus.{BootStatus}
-use Rattle.opening.specs.declared.BootStatus.the-variants as bootStatus
-use Rattle.opening.specs.declared.Booted as boots
-use Rattle.history.specs.Calls.{Machine, Step, afterBoot, Result, refusal, opened, booted, stored, answered, noWork, cutOff}
-use Rattle.machine.specs.Call.{handOf, machineOf, resultOf, stepOf, Makes, bufferAfter, madeBy, bootMade}
+use Rattle.history.specs.Calls.{Machine, Step, Result, refusal, opened, booted, stored, answered, noWork, cutOff}
+use Rattle.machine.specs.Call.{handOf, machineOf, resultOf, stepOf, Makes, bufferAfter}
 use Rattle.machine.specs.declared.InHand.{InHand}
 use Rattle.machine.specs.declared.Report.{Report}
 use Rattle.machine.specs.declared.Report.the-variants.{Refused, Opened, Booted, Stored, Answered, NoWork, CutOff}
@@ -43,12 +43,20 @@ unfolding stepOf
 made m image s e b =
     (e b, sym (same-buffer (m .hand) (m .report) (s .result) (λ c. ap (λ (x : Step Machine). x .result) (e c)) b))
 
--- a boot's opening
-pub boot-step : (h : InHand) (image : List ℕ) (b : boots.Booted) (buffer : List ℕ)
-    → stepOf (bootMade h b) image buffer ≡ afterBoot (machineOf image h) (b .work) (b .status)
-unfolding bootMade stepOf machineOf handOf resultOf
-boot-step h image b buffer = go (b .work) (b .status)
+-- a store: its number decides what is reported
+pub store-step : (w : Work) (boot : Bool) (number left : ℕ) (image buffer : List ℕ)
+    → stepOf (record {
+      hand = record { present = true; boot = boot; work = w };
+      report = cond (eqb number 0) (Stored left) (Refused number);
+    }) image buffer
+    ≡ record {
+      state = record { image = image; hand = some (record { work = w; boot = boot }) };
+      result = cond (eqb number 0) (stored left) (refusal number);
+    }
+unfolding stepOf machineOf handOf resultOf
+store-step w boot number left image buffer = go (eqb number 0)
   where
-    go : (w : Work) (s : BootStatus) → stepOf (madeBy h w s) image buffer ≡ afterBoot (machineOf image h) w s
-    go w (bootStatus.Ready o) = refl
-    go w (bootStatus.Refused n) = refl
+    go : (b : Bool) → stepOf (record { hand = record { present = true; boot = boot; work = w }; report = cond b (Stored left) (Refused number) }) image buffer
+        ≡ record { state = record { image = image; hand = some (record { work = w; boot = boot }) }; result = cond b (stored left) (refusal number) }
+    go true = refl
+    go false = refl

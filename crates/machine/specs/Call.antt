@@ -1,16 +1,11 @@
 -- What the code's work in hand, act and report are to the machine of demand 3. Assumes nothing.
 use mathlib.Core.Path.{_≡_}
 use Prim.Native.Nat.{ℕ}
-use mathlib.Core.Bool.{Bool, true, cond}
+use mathlib.Core.Bool.{Bool, cond}
 use mathlib.Core.List.{List}
 use mathlib.Core.Option.{Option, none, some}
 use lib.Dec.{eqb}
 use lib.ListN.{take}
-use Rattle.work.specs.Entries.{leftOf}
-use Rattle.work.specs.declared.Work.{Work}
-use Rattle.opening.specs.declared.BootStatus.{BootStatus}
-use Rattle.opening.specs.declared.BootStatus.the-variants as bootStatus
-use Rattle.opening.specs.declared.Booted as boots
 use Rattle.opening.specs.Tasks.{requestOf, bootOf}
 use Rattle.opening.specs.Openings.{outcomeNumber}
 use Rattle.history.specs.Calls.{Hand, Machine, Step, request, updateBoot, store, answer, powerCut, Act, openCold, call, Result, refusal, opened, booted, stored, answered, noWork, cutOff}
@@ -63,11 +58,3 @@ bufferAfter (stored n) buffer = buffer
 bufferAfter (answered n w after) buffer = after
 bufferAfter noWork buffer = buffer
 bufferAfter cutOff buffer = buffer
-
--- what a boot's opening makes of the work in hand
-abbrev pub madeBy : InHand → Work → BootStatus → Made
-madeBy h w (bootStatus.Ready o) = record { hand = record { present = true; boot = true; work = w }; report = Booted o (leftOf w) }
-madeBy h w (bootStatus.Refused n) = record { hand = h; report = Refused n }
-
-unfoldable pub bootMade : InHand → boots.Booted → Made
-bootMade h b = madeBy h (b .work) (b .status)

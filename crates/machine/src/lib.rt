@@ -1,6 +1,6 @@
 // One act of demand 3's machine, made through the entries on a lent image, the work in hand and a
 // lent buffer. What runs a list by `make` in a loop runs what the theorem of demand 3 is about.
-pub mod calls;
+mod calls;
 
 ghost use mathlib.Core.Path.{_≡_};
 ghost use Rattle.history.specs.Calls.{act};
@@ -74,7 +74,7 @@ pub fn make(
         UPDATE_BOOT => update_boot_call(&image[..], hand, digest, secret, verdict),
         STORE => store_call(image, hand),
         COLD_BOOT => cold_boot_call(&image[..], hand, digest, secret),
-        ANSWER => answer_call(&image[..], hand, buffer),
-        _ => cut_call(&image[..], hand),
+        ANSWER => answer_call(hand, buffer),
+        _ => cut_call(hand),
     }
 }

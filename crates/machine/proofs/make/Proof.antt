@@ -67,23 +67,24 @@ returns-4 c =
 same-length-5 : tie.Need-same-length-5
 same-length-5 c = search needs
 
-same-length-6 : tie.Need-same-length-6
-same-length-6 c = search needs
-
 returns-5 : tie.Need-returns-5
 unfolding actOf
-returns-5 c = rw (c .before .before .before .before .before .match .keys5) (c .before .before .answer-call .ensures)
-
-same-length-7 : tie.Need-same-length-7
-same-length-7 c = search needs
+returns-5 c =
+    let image = c .before .before .before .before .before .before .before .before .before .before .before .args .image .now in
+    rw (c .before .before .before .before .match .keys5) (c .before .before .answer-call .ensures .0 image, c .before .before .answer-call .ensures .1 image)
 
 returns-6 : tie.Need-returns-6
 unfolding actOf
 returns-6 c =
-    let op = c .before .before .before .before .before .before .before .before .before .args .op in
-    let r = c .before .before .match .rest in
-    rw (ne-eqb op 0 (r .0 .0 .0 .0 .1), ne-eqb op 1 (r .0 .0 .0 .1), ne-eqb op 2 (r .0 .0 .1), ne-eqb op 3 (r .0 .1), ne-eqb op 4 (r .1))
-    (made (c .cut-call .result) _ _ (c .cut-call .ensures) (c .before .before .before .before .before .before .before .before .before .args .buffer .now))
+    let a = c .before .before .before .before .before .before .before .before .args in
+    let r = c .before .match .rest in
+    rw (
+      ne-eqb (a .op) 0 (r .0 .0 .0 .0 .1),
+      ne-eqb (a .op) 1 (r .0 .0 .0 .1),
+      ne-eqb (a .op) 2 (r .0 .0 .1),
+      ne-eqb (a .op) 3 (r .0 .1),
+      ne-eqb (a .op) 4 (r .1),
+    ) (made (c .cut-call .result) _ _ (c .cut-call .ensures (a .image .now)) (a .buffer .now))
 
 pub make-spec : {M : Type 1} → statement M
 make-spec =
@@ -104,7 +105,5 @@ make-spec =
     same-length-4
     returns-4
     same-length-5
-    same-length-6
     returns-5
-    same-length-7
     returns-6)

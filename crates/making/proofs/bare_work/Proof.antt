@@ -1,17 +1,16 @@
 -- The three callees, put together.
 use Rattle.making.specs.Made.{workWith}
-use borrow.Author.Needs.{needs}
 use Rattle.making.proofs.bare_work.Statement.{statement}
 use Rattle.making.proofs.bare_work.Tie as tie
 
 no-values-requires : tie.Need-no-values-requires
-no-values-requires c κs = search needs
+no-values-requires c κs = tt
 
 no-answer-requires : tie.Need-no-answer-requires
-no-answer-requires c κs = search needs
+no-answer-requires c κs = tt
 
 new-work-requires : tie.Need-new-work-requires
-new-work-requires c κs = search needs
+new-work-requires c κs = tt
 
 returns : tie.Need-returns
 unfolding workWith

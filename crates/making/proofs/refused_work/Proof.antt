@@ -1,11 +1,10 @@
 -- A bare work with another position.
 use Rattle.making.specs.Made.{workWith, refusedWork}
-use borrow.Author.Needs.{needs}
 use Rattle.making.proofs.refused_work.Statement.{statement}
 use Rattle.making.proofs.refused_work.Tie as tie
 
 bare-work-requires : tie.Need-bare-work-requires
-bare-work-requires c κs = search needs
+bare-work-requires c κs = tt
 
 returns : tie.Need-returns
 unfolding workWith refusedWork

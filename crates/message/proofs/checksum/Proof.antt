@@ -20,13 +20,13 @@ add-c-3 : tie.Need-add-c-3
 add-c-3 c = search needs
 
 sum-bytes-requires : tie.Need-sum-bytes-requires
-sum-bytes-requires c κs = search needs
+sum-bytes-requires c κs = tt
 
 wrapping-add-u32-requires : tie.Need-wrapping-add-u32-requires
-wrapping-add-u32-requires c κs = search needs
+wrapping-add-u32-requires c κs = tt
 
 wrapping-sub-u32-requires : tie.Need-wrapping-sub-u32-requires
-wrapping-sub-u32-requires c κs = search needs
+wrapping-sub-u32-requires c κs = tt
 
 returns : tie.Need-returns
 unfolding checksumOf

@@ -12,7 +12,7 @@ add-row-of : tie.Need-add-row-of
 add-row-of c = search needs
 
 row-of-requires : tie.Need-row-of-requires
-row-of-requires c κs = search needs
+row-of-requires c κs = tt
 
 returns : tie.Need-returns
 unfolding nodeRow

@@ -26,13 +26,13 @@ slice-aggregate-pack : tie.Need-slice-aggregate-pack Inv-loop μ-loop
 slice-aggregate-pack c = search needs
 
 pack-requires : tie.Need-pack-requires Inv-loop μ-loop
-pack-requires c κs = search needs
+pack-requires c κs = tt
 
 slice-aggregate-pack-2 : tie.Need-slice-aggregate-pack-2 Inv-loop μ-loop
 slice-aggregate-pack-2 c = search needs
 
 pack-requires-2 : tie.Need-pack-requires-2 Inv-loop μ-loop
-pack-requires-2 c κs = search needs
+pack-requires-2 c κs = tt
 
 loop-holds : tie.Need-loop-holds Inv-loop μ-loop
 loop-holds c =

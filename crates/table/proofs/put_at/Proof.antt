@@ -6,15 +6,14 @@ use borrow.Author.Tests.{le-ltb}
 use Rattle.layout.proofs.Cases.{told}
 use Rattle.table.specs.Table.{numberOf, storeAt}
 use Rattle.table.proofs.Within.{store-at}
-use borrow.Author.Needs.{needs}
 use Rattle.table.proofs.put_at.Statement.{statement}
 use Rattle.table.proofs.put_at.Tie as tie
 
 index-ok-requires : tie.Need-index-ok-requires
-index-ok-requires c κs = search needs
+index-ok-requires c κs = tt
 
 number-requires : tie.Need-number-requires
-number-requires c κs = search needs
+number-requires c κs = tt
 
 row-put-requires : tie.Need-row-put-requires
 row-put-requires c κs =

@@ -1,60 +1,69 @@
--- The lent part of the memory is as long as it says.
+-- Each turn makes one store more, and the image keeps its length.
 use native.Mathlib.Omega.{arith}
-use mathlib.Core.Path.{sym}
-use lib.Seq.{length-take-le}
 use borrow.Author.Needs.{needs}
+use Prim.Native.Nat.{_≤_, _-_}
+use mathlib.Core.Path.{_≡_, _∙_}
+use lib.ListN.{length}
 use Rattle.driver.proofs.calls.stores.Statement.{statement}
 use Rattle.driver.proofs.calls.stores.Tie as tie
 
-add-end : tie.Need-add-end
-add-end c = search needs
+abbrev Inv-loop : tie.InvT-loop
+Inv-loop given input image₀ count last₀ made₀ image last made = (made ≤ count) × (length image ≡ length image₀)
 
-stopped-requires : tie.Need-stopped-requires
-stopped-requires c κs = search needs
+abbrev μ-loop : tie.MeasureT-loop
+μ-loop given input image₀ count last₀ made₀ image last made = count - made
 
-returns : tie.Need-returns
-returns c = search needs
+loop-holds : tie.Need-loop-holds Inv-loop μ-loop
+loop-holds c = search needs
 
-slice-relend-prefix-store-many : tie.Need-slice-relend-prefix-store-many
-slice-relend-prefix-store-many c = search needs
+store-one-requires : tie.Need-store-one-requires Inv-loop μ-loop
+store-one-requires c κs = search needs
 
-slice-aggregate-store-many : tie.Need-slice-aggregate-store-many
-slice-aggregate-store-many c = sym (length-take-le _ (c .before .before .before .before .before .args .memory .now) (omega arith))
+counted-requires : tie.Need-counted-requires Inv-loop μ-loop
+counted-requires c κs = search needs
 
-add-read32 : tie.Need-add-read32
-add-read32 c = search needs
-
-read32-requires : tie.Need-read32-requires
-read32-requires c κs = search needs
-
-store-many-requires : tie.Need-store-many-requires
-store-many-requires c κs = search needs
-
-put32-requires : tie.Need-put32-requires
-put32-requires c κs = search needs
-
-put32-requires-2 : tie.Need-put32-requires-2
-put32-requires-2 c κs = search needs
-
-same-length : tie.Need-same-length
+same-length : tie.Need-same-length Inv-loop μ-loop
 same-length c = search needs
 
-returns-2 : tie.Need-returns-2
+returns : tie.Need-returns Inv-loop μ-loop
+returns c = search needs
+
+add-made : tie.Need-add-made Inv-loop μ-loop
+add-made c = search needs
+
+loop-less : tie.Need-loop-less Inv-loop μ-loop
+loop-less c = search needs
+
+loop-again : tie.Need-loop-again Inv-loop μ-loop
+loop-again c = (
+  omega arith,
+  c .before .before .before .before .store-one .kept .1 .1 .0
+      ∙ c .before .before .before .before .before .before .before .loop .inv .1,
+)
+
+counted-requires-2 : tie.Need-counted-requires-2 Inv-loop μ-loop
+counted-requires-2 c κs = search needs
+
+same-length-2 : tie.Need-same-length-2 Inv-loop μ-loop
+same-length-2 c = search needs
+
+returns-2 : tie.Need-returns-2 Inv-loop μ-loop
 returns-2 c = search needs
 
 pub stores-spec : {M : Type 1} → statement M
 stores-spec =
     tie.close
     (tie.spec
-    add-end
-    stopped-requires
-    returns
-    slice-relend-prefix-store-many
-    slice-aggregate-store-many
-    add-read32
-    read32-requires
-    store-many-requires
-    put32-requires
-    put32-requires-2
+    Inv-loop
+    μ-loop
+    loop-holds
+    store-one-requires
+    counted-requires
     same-length
+    returns
+    add-made
+    loop-less
+    loop-again
+    counted-requires-2
+    same-length-2
     returns-2)

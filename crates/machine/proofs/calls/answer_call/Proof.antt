@@ -7,12 +7,18 @@ use borrow.Author.Needs.{needs}
 use Rattle.machine.proofs.calls.answer_call.Statement.{statement}
 use Rattle.machine.proofs.calls.answer_call.Tie as tie
 
+made-requires : tie.Need-made-requires
+made-requires c κs = search needs
+
 returns : tie.Need-returns
 unfolding step stepOf machineOf handOf resultOf bufferAfter
-returns c = rw (not-true (c .before .before .before .before .args .hand .present) (c .if1 .taken)) (refl, refl)
+returns c = rw (c .made .ensures, not-true (c .before .before .before .before .args .hand .present) (c .before .if1 .taken)) (λ image. refl, λ image. refl)
 
 answer-requires : tie.Need-answer-requires
 answer-requires c κs = search needs
+
+made-requires-2 : tie.Need-made-requires-2
+made-requires-2 c κs = search needs
 
 same-length : tie.Need-same-length
 same-length c = search needs
@@ -21,11 +27,14 @@ returns-2 : tie.Need-returns-2
 unfolding step stepOf machineOf handOf resultOf bufferAfter
 returns-2 c =
     rw (
+      c .made2 .ensures,
       not-false (c .before .before .before .before .before .before .before .before .before .args .hand .present)
-          (c .before .before .before .before .before .if1 .left),
-      ← c .before .before .answer .ensures .0,
-      c .before .before .answer .ensures .1,
-    ) (refl, refl)
+          (c .before .before .before .before .before .before .if1 .left),
+      ← c .before .before .before .answer .ensures .0,
+      c .before .before .before .answer .ensures .1,
+    ) (λ image. refl, λ image. refl)
 
 pub answer-call-spec : {M : Type 1} → statement M
-answer-call-spec = tie.close (tie.spec returns answer-requires same-length returns-2)
+answer-call-spec =
+    tie.close
+    (tie.spec made-requires returns answer-requires made-requires-2 same-length returns-2)

@@ -1,7 +1,6 @@
--- The opening is the definition's; `boot-step` makes it the machine's.
+-- The opening is the definition's.
 use Rattle.machine.specs.Call.{machineOf}
 use Rattle.history.specs.Calls.{step}
-use Rattle.machine.proofs.Steps.{boot-step}
 use borrow.Author.Needs.{needs}
 use Rattle.machine.proofs.calls.update_boot_call.Statement.{statement}
 use Rattle.machine.proofs.calls.update_boot_call.Tie as tie
@@ -14,9 +13,9 @@ after-boot-requires c κs = search needs
 
 returns : tie.Need-returns
 unfolding step machineOf
-returns c =
-    λ b. rw (c .after-boot .ensures, c .before .open-update-boot .ensures .0)
-    (boot-step (c .before .before .before .before .before .args .hand) (c .before .before .before .before .before .args .image .now) _ b)
+returns c = λ b. rw (← c .before .open-update-boot .ensures .0) (c .after-boot .ensures (c .before .before .before .before .before .args .image .now) b)
 
 pub update-boot-call-spec : {M : Type 1} → statement M
-update-boot-call-spec = tie.close (tie.spec open-update-boot-requires after-boot-requires returns)
+update-boot-call-spec =
+    tie.close
+    (tie.spec open-update-boot-requires after-boot-requires returns)

@@ -21,7 +21,7 @@ loop-holds : tie.Need-loop-holds Inv-loop μ-loop
 loop-holds c = (search needs, search needs, tab-none _)
 
 word-after-requires : tie.Need-word-after-requires Inv-loop μ-loop
-word-after-requires c κs = search needs
+word-after-requires c κs = tt
 
 mul-out : tie.Need-mul-out Inv-loop μ-loop
 mul-out c = search needs

@@ -6,10 +6,10 @@ use Rattle.slices.proofs.little_endian.read16.Statement.{statement}
 use Rattle.slices.proofs.little_endian.read16.Tie as tie
 
 byte-after-requires : tie.Need-byte-after-requires
-byte-after-requires c κs = search needs
+byte-after-requires c κs = tt
 
 byte-after-requires-2 : tie.Need-byte-after-requires-2
-byte-after-requires-2 c κs = search needs
+byte-after-requires-2 c κs = tt
 
 mul-result : tie.Need-mul-result
 mul-result c = search needs

@@ -6,10 +6,10 @@ use Rattle.slices.proofs.little_endian.read32.Statement.{statement}
 use Rattle.slices.proofs.little_endian.read32.Tie as tie
 
 byte-after-requires : tie.Need-byte-after-requires
-byte-after-requires c κs = search needs
+byte-after-requires c κs = tt
 
 byte-after-requires-2 : tie.Need-byte-after-requires-2
-byte-after-requires-2 c κs = search needs
+byte-after-requires-2 c κs = tt
 
 mul-result : tie.Need-mul-result
 mul-result c = search needs
@@ -18,7 +18,7 @@ add-result : tie.Need-add-result
 add-result c = search needs
 
 byte-after-requires-3 : tie.Need-byte-after-requires-3
-byte-after-requires-3 c κs = search needs
+byte-after-requires-3 c κs = tt
 
 mul-result-2 : tie.Need-mul-result-2
 mul-result-2 c = search needs
@@ -27,7 +27,7 @@ add-result-2 : tie.Need-add-result-2
 add-result-2 c = search needs
 
 byte-after-requires-4 : tie.Need-byte-after-requires-4
-byte-after-requires-4 c κs = search needs
+byte-after-requires-4 c κs = tt
 
 mul-result-3 : tie.Need-mul-result-3
 mul-result-3 c = search needs

@@ -20,7 +20,7 @@ add-read32 : tie.Need-add-read32
 add-read32 c = search needs
 
 read32-requires : tie.Need-read32-requires
-read32-requires c κs = search needs
+read32-requires c κs = tt
 
 returns : tie.Need-returns
 returns c = search needs

@@ -1,15 +1,14 @@
 -- The words, and their bytes.
 use mathlib.Core.Path.{ap, _∙_}
 use Rattle.layout.specs.Words.{bytes48}
-use borrow.Author.Needs.{needs}
 use Rattle.slices.proofs.strings.bytes_in.Statement.{statement}
 use Rattle.slices.proofs.strings.bytes_in.Tie as tie
 
 part12-requires : tie.Need-part12-requires
-part12-requires c κs = search needs
+part12-requires c κs = tt
 
 unpack-requires : tie.Need-unpack-requires
-unpack-requires c κs = search needs
+unpack-requires c κs = tt
 
 returns : tie.Need-returns
 returns c = c .unpack .ensures ∙ ap bytes48 (c .before .part12 .ensures)

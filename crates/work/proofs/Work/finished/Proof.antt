@@ -3,15 +3,14 @@ use mathlib.Core.Path.{_∙_}
 use Rattle.work.specs.Entries.{finished}
 use Rattle.work.proofs.Parts.{shaped-standing}
 use Rattle.layout.proofs.Cases.{cases, told}
-use borrow.Author.Needs.{needs}
 use Rattle.work.proofs.Work.finished.Statement.{statement}
 use Rattle.work.proofs.Work.finished.Tie as tie
 
 shaped-requires : tie.Need-shaped-requires
-shaped-requires c κs = search needs
+shaped-requires c κs = tt
 
 number-requires : tie.Need-number-requires
-number-requires c κs = search needs
+number-requires c κs = tt
 
 returns : tie.Need-returns
 unfolding finished

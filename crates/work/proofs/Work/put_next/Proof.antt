@@ -18,7 +18,7 @@ slice-aggregate-store-4 : tie.Need-slice-aggregate-store-4
 slice-aggregate-store-4 c = search needs
 
 store-requires : tie.Need-store-requires
-store-requires c κs = search needs
+store-requires c κs = tt
 
 same-length : tie.Need-same-length
 same-length c = search needs

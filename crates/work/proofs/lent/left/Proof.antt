@@ -4,15 +4,14 @@ use Rattle.work.specs.Entries.{leftOf}
 use Rattle.work.specs.Parts.{standing}
 use Rattle.work.proofs.Shape.{shaped-position}
 use Rattle.layout.proofs.Cases.{cases, told}
-use borrow.Author.Needs.{needs}
 use Rattle.work.proofs.lent.left.Statement.{statement}
 use Rattle.work.proofs.lent.left.Tie as tie
 
 shaped-requires : tie.Need-shaped-requires
-shaped-requires c κs = search needs
+shaped-requires c κs = tt
 
 number-requires : tie.Need-number-requires
-number-requires c κs = search needs
+number-requires c κs = tt
 
 sub-result : tie.Need-sub-result
 sub-result c =

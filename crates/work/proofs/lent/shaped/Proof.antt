@@ -1,15 +1,14 @@
 -- `shaped` meets its contract: a return for each outcome of the three tests. Assumes nothing.
 use Rattle.work.specs.Entries.{wellShaped}
 use Rattle.layout.proofs.Cases.{cases, told}
-use borrow.Author.Needs.{needs}
 use Rattle.work.proofs.lent.shaped.Statement.{statement}
 use Rattle.work.proofs.lent.shaped.Tie as tie
 
 index-ok-requires : tie.Need-index-ok-requires
-index-ok-requires c κs = search needs
+index-ok-requires c κs = tt
 
 number-requires : tie.Need-number-requires
-number-requires c κs = search needs
+number-requires c κs = tt
 
 returns : tie.Need-returns
 unfolding wellShaped

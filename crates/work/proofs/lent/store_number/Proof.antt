@@ -6,7 +6,6 @@ use Rattle.layout.specs.Sizes.{imageWords}
 use Rattle.layout.proofs.Cases.{cases}
 use Rattle.work.specs.Entries.{storeNumber, leftOf}
 use Rattle.work.specs.Parts.{standing}
-use borrow.Author.Needs.{needs}
 use Rattle.work.proofs.lent.store_number.Statement.{statement}
 use Rattle.work.proofs.lent.store_number.Tie as tie
 
@@ -15,7 +14,7 @@ unfolding storeNumber
 returns c = search cases
 
 left-requires : tie.Need-left-requires
-left-requires c κs = search needs
+left-requires c κs = tt
 
 returns-2 : tie.Need-returns-2
 unfolding storeNumber
