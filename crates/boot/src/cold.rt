@@ -1,11 +1,11 @@
 // A cold boot: the same work whatever the image holds.
 ghost use mathlib.Core.Path.{_≡_};
-ghost use mathlib.Core.List.{[]};
 ghost use lib.ListN.{length};
-ghost use Rattle.opening.specs.Tasks.{bootOf, coldBoot};
-ghost use Rattle.opening.specs.Works.{workAt};
+ghost use Rattle.opening.specs.Tasks.{bootOf};
+ghost use Rattle.opening.specs.Works.{coldValues};
 ghost use Rattle.opening.specs.Openings.{bootNumber, outcomeIn, openColdBoot, coldBooted};
 use crate::inputs::inputs_ok;
+use crate::ready::ready_with;
 use layout::IMAGE_WORDS;
 use layout::INTERNAL_FLAG;
 use layout::ROOT_MARK;
@@ -13,25 +13,22 @@ use layout::ROOT_TYPE;
 use layout::refusals::WRONG_IMAGE;
 use layout::refusals::WRONG_INPUTS;
 use making::Values;
-use making::new_work;
-use making::no_answer;
 use making::run::run_all;
 use nodes::node_row;
 use opening::BootStatus;
 use opening::Booted;
 use opening::Outcome;
 use opening::works::boot_number;
-use opening::works::boot_ready;
 use opening::works::boot_refused;
 use sha384::digest::extend;
 use slices::little_endian::pack;
 use slices::strings::bytes_of;
 use table::Kind;
-use work::Work;
 
-fn cold_work(digest: &[u8], secret: &[u8]) -> Work
+// The words that a cold boot will store.
+fn cold_values(digest: &[u8], secret: &[u8]) -> Values
     requires { ⌜ length (now digest) ≡ 48 ⌝ }
-    ensures { λ r. ⌜ r ≡ workAt [] (coldBoot (bootOf (now (digest .entry)) (now (secret .entry)))) [] ⌝ }
+    ensures { λ r. ⌜ r ≡ coldValues (bootOf (now (digest .entry)) (now (secret .entry))) ⌝ }
 {
     let zero = [0u8; 48];
     let journey = extend(zero, bytes_of(digest, 0));
@@ -46,13 +43,12 @@ fn cold_work(digest: &[u8], secret: &[u8]) -> Work
         0,
     );
     let words = pack(secret, 0);
-    let values = Values {
+    Values {
         register,
         journey: register,
         node,
         secret: words,
-    };
-    new_work(Kind::ColdBoot, values, no_answer())
+    }
 }
 
 // Opens a cold boot: it reads only the image's length and changes nothing.
@@ -67,8 +63,7 @@ pub fn open_cold_boot(image: &[u32], digest: &[u8], secret: &[u8]) -> Booted
     if !inputs_ok(digest, secret) {
         return boot_refused(WRONG_INPUTS);
     }
-    let work = cold_work(digest, secret);
-    boot_ready(work, Outcome::Cold)
+    ready_with(Kind::ColdBoot, cold_values(digest, secret), Outcome::Cold)
 }
 
 // Boots an image cold: opens the boot and makes all its stores. Refused, it stores nothing.

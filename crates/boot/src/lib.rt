@@ -1,4 +1,5 @@
 // Opening a boot (document 01, "Cold boot" and "Update boot").
 pub mod cold;
 mod inputs;
+mod ready;
 pub mod update;

@@ -4,12 +4,17 @@ ghost use mathlib.Core.List.{[]};
 ghost use Prim.Native.Nat.{_≤_};
 ghost use lib.ListN.{length};
 ghost use Rattle.layout.specs.Sizes.{imageWords, nodeCount};
+ghost use Rattle.layout.specs.Words.{bytes48};
+ghost use Rattle.sha384.specs.Entries.{extended};
+ghost use Rattle.nodes.specs.Record.{measurementsRow};
 ghost use Rattle.tree.specs.Tree.{rootIn};
-ghost use Rattle.tree.specs.Nodes.{treeIn};
+ghost use Rattle.tree.specs.Nodes.{treeIn, cumulativeIn};
 ghost use Rattle.opening.specs.Tasks.{bootOf, update};
-ghost use Rattle.opening.specs.Works.{workAt};
+ghost use Rattle.opening.specs.Works.{workAt, updateValues};
 ghost use Rattle.opening.specs.Openings.{bootNumber, outcomeIn, rootMatches, intact, openUpdateBoot};
 use crate::inputs::inputs_ok;
+use crate::ready::ready_bare;
+use crate::ready::ready_with;
 use layout::ATTESTATION_AT;
 use layout::CUMULATIVE_AT;
 use layout::CURRENT_AT;
@@ -22,13 +27,10 @@ use layout::REGISTER_WORDS;
 use layout::refusals::WRONG_IMAGE;
 use layout::refusals::WRONG_INPUTS;
 use making::Values;
-use making::bare_work;
-use making::new_work;
-use making::no_answer;
 use nodes::measurements_row;
+use opening::BootStatus;
 use opening::Booted;
 use opening::Outcome;
-use opening::works::boot_ready;
 use opening::works::boot_refused;
 use sha384::digest::extend;
 use slices::image::word;
@@ -38,7 +40,6 @@ use slices::strings::bytes_of;
 use table::Kind;
 use tree::formed::well_formed;
 use tree::index::root_index;
-use work::Work;
 
 // The root's current measurement equals PCR3, word for word.
 fn root_matches(image: &[u32], root: usize) -> bool
@@ -70,27 +71,43 @@ fn is_intact(image: &[u32]) -> bool
     root_matches(image, root_index(image))
 }
 
-fn update_work(image: &[u32], digest: &[u8], secret: &[u8]) -> Work
-    requires { ⌜ length (now digest) ≡ 48 ⌝ }
-    ensures { λ r. ⌜ r ≡ workAt (now (image .entry)) (update (bootOf (now (digest .entry)) (now (secret .entry)))) [] ⌝ }
+// The root's measurements from the new journey.
+fn root_row(image: &[u32], root: usize, journey: [u8; 48]) -> [u32; NODE_WORDS]
+    requires { ⌜ root ≤ nodeCount ⌝ }
+    ensures { λ r. ⌜ r ≡ measurementsRow journey (extended (bytes48 (cumulativeIn (now (image .entry)) root)) journey) ⌝ }
 {
-    let root = root_index(image);
+    let before = bytes_in(image, NODES_AT + NODE_WORDS * root + CUMULATIVE_AT);
+    measurements_row(journey, extend(before, journey))
+}
+
+// The words that an update will store.
+fn update_values(image: &[u32], root: usize, digest: &[u8], secret: &[u8]) -> Values
+    requires { ⌜ (length (now digest) ≡ 48) × (root ≤ nodeCount) × (root ≡ rootIn nodeCount (treeIn (now image))) ⌝ }
+    ensures { λ r. ⌜ r ≡ updateValues (bootOf (now (digest .entry)) (now (secret .entry))) (now (image .entry)) ⌝ }
+{
     let d = bytes_of(digest, 0);
     let current = extend([0u8; 48], d);
     let journey = extend(bytes_in(image, PCR3_AT), d);
-    let before = bytes_in(image, NODES_AT + NODE_WORDS * root + CUMULATIVE_AT);
-    let cumulative = extend(before, journey);
     let register = pack(&current, 0);
     let words = pack(&journey, 0);
-    let node = measurements_row(journey, cumulative);
+    let node = root_row(image, root, journey);
     let kept = pack(secret, 0);
-    let values = Values {
+    Values {
         register,
         journey: words,
         node,
         secret: kept,
-    };
-    new_work(Kind::Update(root), values, no_answer())
+    }
+}
+
+// An update, by ROM's verdict.
+fn updated(image: &[u32], digest: &[u8], secret: &[u8]) -> Booted
+    requires { ⌜ length (now digest) ≡ 48 ⌝ }
+    ensures { λ r. ⌜ r ≡ record { work = workAt (now (image .entry)) (update (bootOf (now (digest .entry)) (now (secret .entry)))) []; status = BootStatus.Ready Outcome.Updated } ⌝ }
+{
+    let root = root_index(image);
+    let values = update_values(image, root, digest, secret);
+    ready_with(Kind::Update(root), values, Outcome::Updated)
 }
 
 // Opens an update boot: it reads the image and changes nothing.
@@ -106,13 +123,10 @@ pub fn open_update_boot(image: &[u32], digest: &[u8], secret: &[u8], verdict: bo
         return boot_refused(WRONG_INPUTS);
     }
     if !is_intact(image) {
-        let work = bare_work(Kind::Disabling);
-        return boot_ready(work, Outcome::Disabled);
+        return ready_bare(Kind::Disabling, Outcome::Disabled);
     }
     if !verdict {
-        let work = bare_work(Kind::Nothing);
-        return boot_ready(work, Outcome::Kept);
+        return ready_bare(Kind::Nothing, Outcome::Kept);
     }
-    let work = update_work(image, digest, secret);
-    boot_ready(work, Outcome::Updated)
+    updated(image, digest, secret)
 }

@@ -2,7 +2,7 @@
 -- packed four to a word are unpacked. It is true of every work within the types of its fields. Assumes nothing.
 use Prim.Native.Nat.{ℕ, _+_, _-_, _/_, _%_, _≤_, _<_}
 use mathlib.Core.Path.{_≡_, refl, sym, ap, _∙_}
-use mathlib.Core.List.{List}
+use mathlib.Core.List.{List, _++_}
 use native.Mathlib.Omega.{arith}
 use lib.ListN.{length, getD}
 use Rattle.layout.specs.Sizes.{registerWords, nodeWords, answerMax}
@@ -13,7 +13,7 @@ use Rattle.table.specs.declared.Kind.{Kind}
 use Rattle.table.specs.declared.Kind.the-variants.{Nothing, Disabling, Stash, Update, ColdBoot}
 use Rattle.work.specs.declared.Work.{Work}
 use Rattle.flat.specs.Flat.{registerWord, journeyWord, nodeWord, secretWord, answerWord, answerWords, lowOf, highOf, joinedOf, kindNumber, firstIndex, secondIndex, headOf, rowOf, workWords, kindOf, positionOf, answerBytes, workOf}
-use Rattle.flat.proofs.Rows.{row-register, row-journey, row-node, row-secret, row-answer}
+use Rattle.flat.proofs.Rows.{From, Long, part-here, row-register, row-journey, row-node, row-secret, row-answer}
 
 pub joined-back : (n : ℕ) → joinedOf (lowOf n) (highOf n) ≡ n
 joined-back n = omega arith
@@ -44,50 +44,29 @@ pub record Typed (w : Work) : Type 0 where
   pub answer-long : length (w .answer) ≡ answerMax
   pub bytes-small : (i : ℕ) → getD (w .answer) i 0 < 256
 
--- a part of words that holds a list is the list
-part-back : (n p : ℕ) (l x : List ℕ) → length x ≡ n → ((j : ℕ) → p ≤ j → j < p + n → getD l j 0 ≡ getD x (j - p) 0) → part n l p ≡ x
-unfolding part
-part-back n p l x h at =
-    tab-is (λ k. getD l (p + k) 0) x n h
-    (λ i b. let e : p + i - p ≡ i = omega arith in at (p + i) (omega arith) (omega arith) ∙ ap (λ (k : ℕ). getD x k 0) e)
-
 module _ (w : Work) (t : Typed w) where
-  packed : List ℕ
-  packed = wordsAt answerWords (w .answer) 0
-
-  nine : length (headOf w) ≡ registerWord
+  long : Long (headOf w) (w .register) (w .journey) (w .node) (w .secret) (wordsAt answerWords (w .answer) 0)
   unfolding headOf
-  nine = refl
+  long =
+      record {
+        head-long = refl;
+        register-long = t .register-long;
+        journey-long = t .journey-long;
+        node-long = t .node-long;
+        secret-long = t .secret-long;
+        answer-long = length-words answerWords (w .answer) 0;
+      }
 
-  register-back : part registerWords (workWords w) registerWord ≡ w .register
+  -- a field of the work, where it stands among its words
+  field-back : (p n : ℕ) (x rest : List ℕ) → length x ≡ n
+      → From p (x ++ rest) (rowOf (headOf w) (w .register) (w .journey) (w .node) (w .secret) (wordsAt answerWords (w .answer) 0))
+      → part n (workWords w) p ≡ x
   unfolding workWords
-  register-back = part-back registerWords registerWord _ (w .register) (t .register-long)
-      (row-register (headOf w) (w .register) (w .journey) (w .node) (w .secret) (wordsAt answerWords (w .answer) 0) nine (t .register-long) (t .journey-long)
-      (t .node-long) (t .secret-long) (length-words answerWords (w .answer) 0))
+  field-back p n x rest = part-here p n x rest _
 
-  journey-back : part registerWords (workWords w) journeyWord ≡ w .journey
+  answer-at : From answerWord (wordsAt answerWords (w .answer) 0) (workWords w)
   unfolding workWords
-  journey-back = part-back registerWords journeyWord _ (w .journey) (t .journey-long)
-      (row-journey (headOf w) (w .register) (w .journey) (w .node) (w .secret) (wordsAt answerWords (w .answer) 0) nine (t .register-long) (t .journey-long)
-      (t .node-long) (t .secret-long) (length-words answerWords (w .answer) 0))
-
-  node-back : part nodeWords (workWords w) nodeWord ≡ w .node
-  unfolding workWords
-  node-back = part-back nodeWords nodeWord _ (w .node) (t .node-long)
-      (row-node (headOf w) (w .register) (w .journey) (w .node) (w .secret) (wordsAt answerWords (w .answer) 0) nine (t .register-long) (t .journey-long)
-      (t .node-long) (t .secret-long) (length-words answerWords (w .answer) 0))
-
-  secret-back : part registerWords (workWords w) secretWord ≡ w .secret
-  unfolding workWords
-  secret-back = part-back registerWords secretWord _ (w .secret) (t .secret-long)
-      (row-secret (headOf w) (w .register) (w .journey) (w .node) (w .secret) (wordsAt answerWords (w .answer) 0) nine (t .register-long) (t .journey-long)
-      (t .node-long) (t .secret-long) (length-words answerWords (w .answer) 0))
-
-  answer-at : (j : ℕ) → answerWord ≤ j → getD (workWords w) j 0 ≡ getD (wordsAt answerWords (w .answer) 0) (j - answerWord) 0
-  unfolding workWords
-  answer-at =
-      row-answer (headOf w) (w .register) (w .journey) (w .node) (w .secret) (wordsAt answerWords (w .answer) 0) nine (t .register-long) (t .journey-long)
-      (t .node-long) (t .secret-long) (length-words answerWords (w .answer) 0)
+  answer-at = row-answer _ _ _ _ _ _ long
 
   answer-back : answerBytes (workWords w) ≡ w .answer
   unfolding answerBytes
@@ -130,9 +109,9 @@ module _ (w : Work) (t : Typed w) where
         at7,
         kind-back (w .kind),
         position-back (w .kind) (w .position),
-        register-back,
-        journey-back,
-        node-back,
-        secret-back,
+        field-back registerWord registerWords (w .register) _ (t .register-long) (row-register _ _ _ _ _ _ long),
+        field-back journeyWord registerWords (w .journey) _ (t .journey-long) (row-journey _ _ _ _ _ _ long),
+        field-back nodeWord nodeWords (w .node) _ (t .node-long) (row-node _ _ _ _ _ _ long),
+        field-back secretWord registerWords (w .secret) _ (t .secret-long) (row-secret _ _ _ _ _ _ long),
         answer-back,
       )

@@ -2,5 +2,3 @@
 pub mod Rows
 pub mod Back
 pub mod Opens
-pub mod Stored
-pub mod Answers

@@ -1,5 +1,5 @@
--- The words of a work by their place: a part of a row stands behind the parts before it (`next`, which counts from a running place), so word j
--- of the row is a word of one part. A buffer that was filled with these words is the row. Assumes nothing.
+-- The words of a work by their place. From a place on, a row is what stands there (`From`): a part and what follows it; behind the part it is
+-- what follows (`next`), and up to there the part (`here`, `part-here`). A buffer that was filled with a row's words is the row. Assumes nothing.
 use mathlib.Core.Path.{_≡_, refl, ap, _∙_}
 use mathlib.Core.List.{List, _++_}
 use Prim.Native.Nat.{ℕ, _+_, _-_, _≤_, _<_}
@@ -7,73 +7,76 @@ use native.Mathlib.Omega.{arith}
 use lib.ListN.{length, getD, take, length-append, List·getD-append}
 use lib.Seq.{getD-append-add}
 use Rattle.layout.specs.Sizes.{registerWords, nodeWords}
-use Rattle.layout.specs.Words.{tab}
+use Rattle.layout.specs.Words.{tab, part}
 use Rattle.layout.proofs.Tab.{tab-full, tab-is}
 use Rattle.flat.specs.Flat.{registerWord, journeyWord, nodeWord, secretWord, answerWord, answerWords, workSize, rowOf}
 
--- what stands behind a front of n elements
-skip : (n : ℕ) (front rest : List ℕ) (j : ℕ) → length front ≡ n → n ≤ j → getD (front ++ rest) j 0 ≡ getD rest (j - n) 0
-skip n front rest j h l =
-    let e : j ≡ length front + (j - n) = omega arith in
-    ap (λ (i : ℕ). getD (front ++ rest) i 0) e ∙ getD-append-add front rest (j - n) 0
+-- from place p on, l is x
+abbrev pub From : ℕ → List ℕ → List ℕ → Type 0
+From p x l = (j : ℕ) → p ≤ j → getD l j 0 ≡ getD x (j - p) 0
 
--- the same of a row whose index is counted from a place before the front
-next : (p n : ℕ) (front rest : List ℕ) (j : ℕ) → length front ≡ n → p + n ≤ j → getD (front ++ rest) (j - p) 0 ≡ getD rest (j - (p + n)) 0
-next p n front rest j h l =
-    let e : j - p - n ≡ j - (p + n) = omega arith in
-    skip n front rest (j - p) h (omega arith) ∙ ap (λ (i : ℕ). getD rest i 0) e
+next : (p n : ℕ) (x rest l : List ℕ) → length x ≡ n → From p (x ++ rest) l → From (p + n) rest l
+next p n x rest l h from j g =
+    let e : j - p ≡ length x + (j - (p + n)) = omega arith in
+    from j (omega arith) ∙ ap (λ (i : ℕ). getD (x ++ rest) i 0) e ∙ getD-append-add x rest (j - (p + n)) 0
 
-module _ (head register journey node secret answer : List ℕ) (h0 : length head ≡ registerWord) (h1 : length register ≡ registerWords)
-    (h2 : length journey ≡ registerWords) (h3 : length node ≡ nodeWords) (h4 : length secret ≡ registerWords) (h5 : length answer ≡ answerWords)
-  where
-    pub row-head : (j : ℕ) → j < registerWord → getD (rowOf head register journey node secret answer) j 0 ≡ getD head j 0
-    unfolding rowOf
-    row-head j l = List·getD-append head (register ++ (journey ++ (node ++ (secret ++ answer)))) 0 j (omega arith)
+pub here : (p n : ℕ) (x rest l : List ℕ) → length x ≡ n → From p (x ++ rest) l → (j : ℕ) → p ≤ j → j < p + n → getD l j 0 ≡ getD x (j - p) 0
+here p n x rest l h from j g b = from j g ∙ List·getD-append x rest 0 (j - p) (omega arith)
 
-    from1 : (j : ℕ) → registerWord ≤ j
-        → getD (rowOf head register journey node secret answer) j 0 ≡ getD (register ++ (journey ++ (node ++ (secret ++ answer)))) (j - registerWord) 0
-    unfolding rowOf
-    from1 j l = skip registerWord head (register ++ (journey ++ (node ++ (secret ++ answer)))) j h0 l
+pub part-here : (p n : ℕ) (x rest l : List ℕ) → length x ≡ n → From p (x ++ rest) l → part n l p ≡ x
+unfolding part
+part-here p n x rest l h from =
+    tab-is (λ k. getD l (p + k) 0) x n h
+    (λ i b. let e : p + i - p ≡ i = omega arith in here p n x rest l h from (p + i) (omega arith) (omega arith) ∙ ap (λ (k : ℕ). getD x k 0) e)
 
-    from2 : (j : ℕ) → journeyWord ≤ j
-        → getD (rowOf head register journey node secret answer) j 0 ≡ getD (journey ++ (node ++ (secret ++ answer))) (j - journeyWord) 0
-    from2 j l = from1 j (omega arith) ∙ next registerWord registerWords register (journey ++ (node ++ (secret ++ answer))) j h1 l
+-- parts as long as a work's
+pub record Long (head register journey node secret answer : List ℕ) : Type 0 where
+  pub head-long : length head ≡ registerWord
+  pub register-long : length register ≡ registerWords
+  pub journey-long : length journey ≡ registerWords
+  pub node-long : length node ≡ nodeWords
+  pub secret-long : length secret ≡ registerWords
+  pub answer-long : length answer ≡ answerWords
 
-    from3 : (j : ℕ) → nodeWord ≤ j → getD (rowOf head register journey node secret answer) j 0 ≡ getD (node ++ (secret ++ answer)) (j - nodeWord) 0
-    from3 j l = from2 j (omega arith) ∙ next journeyWord registerWords journey (node ++ (secret ++ answer)) j h2 l
+module _ (head register journey node secret answer : List ℕ) (long : Long head register journey node secret answer) where
+  abbrev row : List ℕ
+  row = rowOf head register journey node secret answer
 
-    from4 : (j : ℕ) → secretWord ≤ j → getD (rowOf head register journey node secret answer) j 0 ≡ getD (secret ++ answer) (j - secretWord) 0
-    from4 j l = from3 j (omega arith) ∙ next nodeWord nodeWords node (secret ++ answer) j h3 l
+  row-head : From 0 (head ++ (register ++ (journey ++ (node ++ (secret ++ answer))))) row
+  unfolding rowOf
+  row-head j l = let e : j ≡ j - 0 = omega arith in
+      ap (λ (i : ℕ). getD (head ++ (register ++ (journey ++ (node ++ (secret ++ answer))))) i 0) e
 
-    pub row-register : (j : ℕ) → registerWord ≤ j → j < journeyWord → getD (rowOf head register journey node secret answer) j 0 ≡ getD register (j - registerWord) 0
-    row-register j l m = from1 j l ∙ List·getD-append register (journey ++ (node ++ (secret ++ answer))) 0 (j - registerWord) (omega arith)
+  pub at-head : (j : ℕ) → j < registerWord → getD row j 0 ≡ getD head j 0
+  unfolding rowOf
+  at-head j b = List·getD-append head (register ++ (journey ++ (node ++ (secret ++ answer)))) 0 j (omega (arith, long .head-long))
 
-    pub row-journey : (j : ℕ) → journeyWord ≤ j → j < nodeWord → getD (rowOf head register journey node secret answer) j 0 ≡ getD journey (j - journeyWord) 0
-    row-journey j l m = from2 j l ∙ List·getD-append journey (node ++ (secret ++ answer)) 0 (j - journeyWord) (omega arith)
+  pub row-register : From registerWord (register ++ (journey ++ (node ++ (secret ++ answer)))) row
+  row-register = next 0 registerWord head (register ++ (journey ++ (node ++ (secret ++ answer)))) row (long .head-long) row-head
 
-    pub row-node : (j : ℕ) → nodeWord ≤ j → j < secretWord → getD (rowOf head register journey node secret answer) j 0 ≡ getD node (j - nodeWord) 0
-    row-node j l m = from3 j l ∙ List·getD-append node (secret ++ answer) 0 (j - nodeWord) (omega arith)
+  pub row-journey : From journeyWord (journey ++ (node ++ (secret ++ answer))) row
+  row-journey = next registerWord registerWords register (journey ++ (node ++ (secret ++ answer))) row (long .register-long) row-register
 
-    pub row-secret : (j : ℕ) → secretWord ≤ j → j < answerWord → getD (rowOf head register journey node secret answer) j 0 ≡ getD secret (j - secretWord) 0
-    row-secret j l m = from4 j l ∙ List·getD-append secret answer 0 (j - secretWord) (omega arith)
+  pub row-node : From nodeWord (node ++ (secret ++ answer)) row
+  row-node = next journeyWord registerWords journey (node ++ (secret ++ answer)) row (long .journey-long) row-journey
 
-    pub row-answer : (j : ℕ) → answerWord ≤ j → getD (rowOf head register journey node secret answer) j 0 ≡ getD answer (j - answerWord) 0
-    row-answer j l = from4 j (omega arith) ∙ next secretWord registerWords secret answer j h4 l
+  pub row-secret : From secretWord (secret ++ answer) row
+  row-secret = next nodeWord nodeWords node (secret ++ answer) row (long .node-long) row-node
 
-    pub row-length : length (rowOf head register journey node secret answer) ≡ workSize
-    unfolding rowOf
-    row-length =
-        let a = length-append head (register ++ (journey ++ (node ++ (secret ++ answer)))) in
-        let b = length-append register (journey ++ (node ++ (secret ++ answer))) in
-        let c = length-append journey (node ++ (secret ++ answer)) in
-        let d = length-append node (secret ++ answer) in
-        let e = length-append secret answer in
-        omega arith
+  pub row-answer : From answerWord answer row
+  row-answer = next secretWord registerWords secret answer row (long .secret-long) row-secret
 
-    -- a list that was filled with the row's words is the row
-    pub row-filled : (l : List ℕ) → length l ≡ workSize
-        → take workSize l ≡ tab workSize (λ i. getD (rowOf head register journey node secret answer) i 0)
-        → l ≡ rowOf head register journey node secret answer
-    row-filled l h e =
-        let f : ℕ → ℕ = λ i. getD (rowOf head register journey node secret answer) i 0 in
-        tab-full f l workSize h e ∙ tab-is f (rowOf head register journey node secret answer) workSize row-length (λ i b. refl)
+  row-length : length row ≡ workSize
+  unfolding rowOf
+  row-length =
+      let a = length-append head (register ++ (journey ++ (node ++ (secret ++ answer)))) in
+      let b = length-append register (journey ++ (node ++ (secret ++ answer))) in
+      let c = length-append journey (node ++ (secret ++ answer)) in
+      let d = length-append node (secret ++ answer) in
+      let e = length-append secret answer in
+      omega (arith, long .head-long, long .register-long, long .journey-long, long .node-long, long .secret-long, long .answer-long)
+
+  -- a list that was filled with the row's words is the row
+  pub row-filled : (l : List ℕ) → length l ≡ workSize → take workSize l ≡ tab workSize (λ i. getD row i 0) → l ≡ row
+  row-filled l h e = let f : ℕ → ℕ = λ i. getD row i 0 in
+      tab-full f l workSize h e ∙ tab-is f row workSize row-length (λ i b. refl)

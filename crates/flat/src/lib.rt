@@ -1,7 +1,6 @@
-// A work held in lent words, for firmware that keeps it there: how the words are a work (`words`), an
-// opening into them (`opened`), and the entries over them (`held`).
-pub mod held;
+// A work held in lent words, for firmware that keeps it there: the words of a work (`words`) and an
+// opening into them (`opened`).
 pub mod opened;
-mod words;
+pub mod words;
 
 pub const WORK_WORDS: usize = words::WORK_WORDS;

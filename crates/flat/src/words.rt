@@ -1,205 +1,98 @@
-// A work as the words of a lent buffer, and the work that any words are.
+// A work as the words of a lent buffer.
 //
 // Words 0 to 8 are the kind's number and, of two words each, low and high, the kind's two indices, the
 // position and the answer's length; then register, journey, node and secret; then the answer, four
 // bytes to a word, the first lowest.
 ghost use mathlib.Core.Path.{_≡_};
+ghost use mathlib.Core.List.{[], _∷_};
 ghost use Prim.Native.Nat.{_<_};
 ghost use lib.ListN.{length, getD};
-ghost use Rattle.layout.specs.Words.{byteOf, wordsAt};
-ghost use Rattle.flat.specs.Flat.{AllBytes, PartsLong, workSize, answerWords, lowOf, highOf, joinedOf, kindNumber, firstIndex, secondIndex, headOf, rowOf, workWords, kindOf, positionOf, answerBytes, workOf};
+ghost use Rattle.layout.specs.Words.{wordsAt};
+ghost use Rattle.work.specs.Parts.{standing};
+ghost use Rattle.flat.specs.Flat.{AllBytes, workSize, answerWords, lowOf, highOf, headOf, rowOf, workWords, workOf};
 use layout::ANSWER_MAX;
 use layout::NODE_WORDS;
 use layout::REGISTER_WORDS;
-use slices::image::word;
 use slices::little_endian::read32;
 use table::Kind;
-use table::StashAt;
 use work::Work;
 
-const FIRST_IN: usize = 1;
+pub const FIRST_IN: usize = 1;
 
-const SECOND_IN: usize = 3;
+pub const SECOND_IN: usize = 3;
 
-pub(crate) const POSITION_IN: usize = 5;
+pub const POSITION_IN: usize = 5;
 
-const LENGTH_IN: usize = 7;
+pub const POSITION_HIGH_IN: usize = 6;
 
-pub(crate) const REGISTER_IN: usize = 9;
+pub const LENGTH_IN: usize = 7;
 
-pub(crate) const JOURNEY_IN: usize = REGISTER_IN + REGISTER_WORDS;
+pub const REGISTER_IN: usize = 9;
 
-pub(crate) const NODE_IN: usize = JOURNEY_IN + REGISTER_WORDS;
+pub const JOURNEY_IN: usize = REGISTER_IN + REGISTER_WORDS;
 
-pub(crate) const SECRET_IN: usize = NODE_IN + NODE_WORDS;
+pub const NODE_IN: usize = JOURNEY_IN + REGISTER_WORDS;
 
-pub(crate) const ANSWER_IN: usize = SECRET_IN + REGISTER_WORDS;
+pub const SECRET_IN: usize = NODE_IN + NODE_WORDS;
+
+pub const ANSWER_IN: usize = SECRET_IN + REGISTER_WORDS;
 
 const ANSWER_WORDS: usize = ANSWER_MAX / 4;
 
-pub(crate) const WORK_WORDS: usize = ANSWER_IN + ANSWER_WORDS;
+pub const WORK_WORDS: usize = ANSWER_IN + ANSWER_WORDS;
 
 // The number of a work buffer of another length.
-pub(crate) const WRONG_WORK: u32 = 28;
+pub const WRONG_WORK: u32 = 28;
 
 // Numbers of two words.
 
-pub(crate) fn low(n: usize) -> u32
+fn low(n: usize) -> u32
     ensures { λ r. ⌜ r ≡ lowOf n ⌝ }
 {
     (n % 4294967296) as u32
 }
 
-pub(crate) fn high(n: usize) -> u32
+fn high(n: usize) -> u32
     ensures { λ r. ⌜ r ≡ highOf n ⌝ }
 {
     (n / 4294967296) as u32
 }
 
-fn joined(low: u32, high: u32) -> usize
-    ensures { λ r. ⌜ r ≡ joinedOf low high ⌝ }
-{
-    (low as usize) + 4294967296 * (high as usize)
-}
-
-// The work of any words.
-
-fn kind_of(number: u32, first: usize, second: usize) -> Kind
-    ensures { λ r. ⌜ r ≡ kindOf number first second ⌝ }
-{
-    if number == 1 {
-        return Kind::Disabling;
-    }
-    if number == 2 {
-        return Kind::Stash(StashAt {
-            node: first,
-            holder: second,
-        });
-    }
-    if number == 3 {
-        return Kind::Update(first);
-    }
-    if number == 4 {
-        return Kind::ColdBoot;
-    }
-    Kind::Nothing
-}
-
-// A number that is no kind's is past its last store.
-fn position_of(number: u32, position: usize) -> usize
-    ensures { λ r. ⌜ r ≡ positionOf number position ⌝ }
-{
-    if number < 5 {
-        return position;
-    }
-    1
-}
-
-pub(crate) fn kind_in(words: &[u32]) -> Kind
-    ensures { λ r. ⌜ r ≡ workOf (now (words .entry)) .kind ⌝ }
-{
-    let number = word(words, 0);
-    let first = joined(word(words, FIRST_IN), word(words, FIRST_IN + 1));
-    let second = joined(word(words, SECOND_IN), word(words, SECOND_IN + 1));
-    kind_of(number, first, second)
-}
-
-pub(crate) fn position_in(words: &[u32]) -> usize
-    ensures { λ r. ⌜ r ≡ workOf (now (words .entry)) .position ⌝ }
-{
-    let number = word(words, 0);
-    let made = joined(word(words, POSITION_IN), word(words, POSITION_IN + 1));
-    position_of(number, made)
-}
-
-pub(crate) fn answer_len_in(words: &[u32]) -> usize
-    ensures { λ r. ⌜ r ≡ workOf (now (words .entry)) .«answer_len» ⌝ }
-{
-    joined(word(words, LENGTH_IN), word(words, LENGTH_IN + 1))
-}
-
-// Byte j of a word, the lowest first.
-fn byte_of(w: u32, j: usize) -> u8
-    requires { ⌜ j < 4 ⌝ }
-    ensures { λ r. ⌜ r ≡ byteOf w j ⌝ }
-{
-    match j {
-        0 => (w % 256) as u8,
-        1 => (w / 256 % 256) as u8,
-        2 => (w / 65536 % 256) as u8,
-        _ => (w / 16777216 % 256) as u8,
-    }
-}
-
-pub(crate) fn answer_in(words: &[u32]) -> [u8; ANSWER_MAX]
-    ensures { λ r. ⌜ r ≡ answerBytes (now (words .entry)) ⌝ }
-{
-    let mut out = [0u8; ANSWER_MAX];
-    let mut k = 0;
-    while k < ANSWER_MAX {
-        let w = word(words, ANSWER_IN + k / 4);
-        out[k] = byte_of(w, k % 4);
-        k += 1;
-    }
-    out
-}
-
 // The words of a work.
 
-fn kind_number(kind: Kind) -> u32
-    ensures { λ r. ⌜ r ≡ kindNumber kind ⌝ }
+// The first nine words: the kind's number, and the two words of each number after it.
+fn head(
+    number: u32,
+    first: usize,
+    second: usize,
+    position: usize,
+    length: usize,
+) -> [u32; REGISTER_IN]
+    ensures { λ r. ⌜ r ≡ number ∷ lowOf first ∷ highOf first ∷ lowOf second ∷ highOf second ∷ lowOf position ∷ highOf position ∷ lowOf length ∷ highOf length ∷ [] ⌝ }
 {
-    match kind {
-        Kind::Nothing => 0,
-        Kind::Disabling => 1,
-        Kind::Stash(_) => 2,
-        Kind::Update(_) => 3,
-        Kind::ColdBoot => 4,
-    }
-}
-
-fn first_index(kind: Kind) -> usize
-    ensures { λ r. ⌜ r ≡ firstIndex kind ⌝ }
-{
-    match kind {
-        Kind::Nothing => 0,
-        Kind::Disabling => 0,
-        Kind::Stash(at) => at.node,
-        Kind::Update(root) => root,
-        Kind::ColdBoot => 0,
-    }
-}
-
-fn second_index(kind: Kind) -> usize
-    ensures { λ r. ⌜ r ≡ secondIndex kind ⌝ }
-{
-    match kind {
-        Kind::Nothing => 0,
-        Kind::Disabling => 0,
-        Kind::Stash(at) => at.holder,
-        Kind::Update(_) => 0,
-        Kind::ColdBoot => 0,
-    }
-}
-
-fn head_of(w: Work) -> [u32; REGISTER_IN]
-    ensures { λ r. ⌜ r ≡ headOf w ⌝ }
-{
-    let kind = w.kind;
-    let number = kind_number(kind);
-    let first = first_index(kind);
-    let second = second_index(kind);
     [
         number,
         low(first),
         high(first),
         low(second),
         high(second),
-        low(w.position),
-        high(w.position),
-        low(w.answer_len),
-        high(w.answer_len),
+        low(position),
+        high(position),
+        low(length),
+        high(length),
     ]
+}
+
+fn head_of(kind: Kind, position: usize, answer_len: usize) -> [u32; REGISTER_IN]
+    ensures { λ r. ⌜ r ≡ headOf (standing kind position «answer_len») ⌝ }
+{
+    match kind {
+        Kind::Nothing => head(0, 0, 0, position, answer_len),
+        Kind::Disabling => head(1, 0, 0, position, answer_len),
+        Kind::Stash(at) => head(2, at.node, at.holder, position, answer_len),
+        Kind::Update(root) => head(3, root, 0, position, answer_len),
+        Kind::ColdBoot => head(4, 0, 0, position, answer_len),
+    }
 }
 
 fn packed(answer: &[u8]) -> [u32; ANSWER_WORDS]
@@ -216,48 +109,47 @@ fn packed(answer: &[u8]) -> [u32; ANSWER_WORDS]
 }
 
 // Word k of the parts one after another.
-fn row_word<'a>(
-    head: &'a [u32],
-    register: &'a [u32],
-    journey: &'a [u32],
-    node: &'a [u32],
-    secret: &'a [u32],
-    answer: &'a [u32],
+fn row_word(
+    head: [u32; REGISTER_IN],
+    register: [u32; REGISTER_WORDS],
+    journey: [u32; REGISTER_WORDS],
+    node: [u32; NODE_WORDS],
+    secret: [u32; REGISTER_WORDS],
+    answer: [u32; ANSWER_WORDS],
     k: usize,
 ) -> u32
-    requires { ⌜ PartsLong (now head) (now register) (now journey) (now node) (now secret) (now answer) ⌝ }
-    ensures { λ r. ⌜ r ≡ getD (rowOf (now (head .entry)) (now (register .entry)) (now (journey .entry)) (now (node .entry)) (now (secret .entry)) (now (answer .entry))) k 0 ⌝ }
+    requires { ⌜ k < workSize ⌝ }
+    ensures { λ r. ⌜ r ≡ getD (rowOf head register journey node secret answer) k 0 ⌝ }
 {
     if k < REGISTER_IN {
-        return word(head, k);
+        return head[k];
     }
     if k < JOURNEY_IN {
-        return word(register, k - REGISTER_IN);
+        return register[k - REGISTER_IN];
     }
     if k < NODE_IN {
-        return word(journey, k - JOURNEY_IN);
+        return journey[k - JOURNEY_IN];
     }
     if k < SECRET_IN {
-        return word(node, k - NODE_IN);
+        return node[k - NODE_IN];
     }
     if k < ANSWER_IN {
-        return word(secret, k - SECRET_IN);
+        return secret[k - SECRET_IN];
     }
-    word(answer, k - ANSWER_IN)
+    answer[k - ANSWER_IN]
 }
 
-fn write_row<'a>(
-    head: &'a [u32],
-    register: &'a [u32],
-    journey: &'a [u32],
-    node: &'a [u32],
-    secret: &'a [u32],
-    answer: &'a [u32],
+fn write_row(
+    head: [u32; REGISTER_IN],
+    register: [u32; REGISTER_WORDS],
+    journey: [u32; REGISTER_WORDS],
+    node: [u32; NODE_WORDS],
+    secret: [u32; REGISTER_WORDS],
+    answer: [u32; ANSWER_WORDS],
     out: &mut [u32],
 )
     requires { ⌜ length (now out) ≡ workSize ⌝ }
-    requires { ⌜ PartsLong (now head) (now register) (now journey) (now node) (now secret) (now answer) ⌝ }
-    ensures { λ r. ⌜ now (out .exit) ≡ rowOf (now (head .entry)) (now (register .entry)) (now (journey .entry)) (now (node .entry)) (now (secret .entry)) (now (answer .entry)) ⌝ }
+    ensures { λ r. ⌜ now (out .exit) ≡ rowOf head register journey node secret answer ⌝ }
 {
     let mut k = 0;
     while k < WORK_WORDS {
@@ -271,12 +163,13 @@ pub(crate) fn write_work(w: Work, out: &mut [u32])
     ensures { λ r. ⌜ now (out .exit) ≡ workWords w ⌝ }
     ensures { λ r. ⌜ workOf (now (out .exit)) ≡ w ⌝ }
 {
-    let head = head_of(w);
+    let kind = w.kind;
+    let head = head_of(kind, w.position, w.answer_len);
+    let bytes = w.answer;
+    let answer = packed(&bytes);
     let register = w.register;
     let journey = w.journey;
     let node = w.node;
     let secret = w.secret;
-    let bytes = w.answer;
-    let answer = packed(&bytes);
-    write_row(&head, &register, &journey, &node, &secret, &answer, out);
+    write_row(head, register, journey, node, secret, answer, out);
 }

@@ -36,7 +36,9 @@ pub by-screen : (c : Command) (image : List ℕ) (r : Request) (n : ℕ) (s : St
     → screenOf (r .code) (r .bytes) n ≡ s → commandOpened c image r ≡ afterScreen (screenedOpened c image r) s
 unfolding commandOpened screenedOpened commandRuling screenOf
 by-screen c image r n s e h =
-    ap (λ (b : Bool). openedOf image (cond (not b) (refused number.wrongLength) (cond (wrongChecksum (r .code) (r .bytes)) (refused number.badChecksum) rest))) e
+    ap
+    (λ (b : Bool). openedOf image (cond (not b) (refused number.wrongLength) (cond (wrongChecksum (r .code) (r .bytes)) (refused number.badChecksum) rest)))
+    e
     ∙ in-turn image (eqb (length (r .bytes)) n) (wrongChecksum (r .code) (r .bytes)) rest
     ∙ ap (afterScreen (openedOf image rest)) h
   where

@@ -5,12 +5,11 @@ ghost use mathlib.Core.List.{[]};
 ghost use Rattle.opening.specs.Tasks.{requestOf};
 ghost use Rattle.opening.specs.Rules.{disableAttestation, disableCode, bareLength};
 ghost use Rattle.request.specs.Screen.{commandOpened};
-use crate::answer::plain_work;
+use crate::answer::ready_plain;
 use crate::screen::screen;
 use opening::Opened;
 use opening::Status;
 use opening::commands::DISABLE_CODE;
-use opening::works::ready;
 use opening::works::refused;
 use table::Kind;
 
@@ -20,7 +19,7 @@ pub(crate) fn open_disable(image: &[u32], bytes: &[u8], n: usize) -> Opened
 {
     let status = screen(DISABLE_CODE, bytes, n);
     match status {
-        Status::Refused(number) => refused(number),
-        Status::Ready => ready(plain_work(Kind::Disabling, DISABLE_CODE, &bytes[..0])),
+        Status::Refused(number) => return refused(number),
+        Status::Ready => return ready_plain(Kind::Disabling, DISABLE_CODE, &bytes[..0]),
     }
 }

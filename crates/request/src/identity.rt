@@ -4,13 +4,12 @@ ghost use mathlib.Core.Bool.{false};
 ghost use Rattle.opening.specs.Tasks.{requestOf};
 ghost use Rattle.opening.specs.Rules.{handoffOk, identityKey, identityCode, bareLength};
 ghost use Rattle.request.specs.Screen.{commandOpened};
-use crate::answer::plain_work;
+use crate::answer::ready_plain;
 use crate::screen::screen;
 use layout::refusals::WRONG_TABLE;
 use opening::Opened;
 use opening::Status;
 use opening::commands::IDENTITY_CODE;
-use opening::works::ready;
 use opening::works::refused;
 use slices::little_endian::read16;
 use slices::little_endian::read32;
@@ -46,12 +45,12 @@ pub(crate) fn open_identity(image: &[u32], bytes: &[u8], n: usize, handoff: &[u8
 {
     let status = screen(IDENTITY_CODE, bytes, n);
     match status {
-        Status::Refused(number) => refused(number),
+        Status::Refused(number) => return refused(number),
         Status::Ready => {
             if handoff_ok(handoff) {
-                ready(plain_work(Kind::Nothing, IDENTITY_CODE, &handoff[KEY_START..KEY_END]))
+                return ready_plain(Kind::Nothing, IDENTITY_CODE, &handoff[KEY_START..KEY_END]);
             } else {
-                refused(WRONG_TABLE)
+                return refused(WRONG_TABLE);
             }
         }
     }

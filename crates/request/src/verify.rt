@@ -4,13 +4,12 @@ ghost use mathlib.Core.List.{[]};
 ghost use Rattle.opening.specs.Tasks.{requestOf};
 ghost use Rattle.opening.specs.Rules.{verifySignature, verifyCode, verifyLength};
 ghost use Rattle.request.specs.Screen.{commandOpened};
-use crate::answer::plain_work;
+use crate::answer::ready_plain;
 use crate::screen::screen;
 use layout::refusals::BAD_SIGNATURE;
 use opening::Opened;
 use opening::Status;
 use opening::commands::VERIFY_CODE;
-use opening::works::ready;
 use opening::works::refused;
 use table::Kind;
 
@@ -20,12 +19,12 @@ pub(crate) fn open_verify(image: &[u32], bytes: &[u8], n: usize, verdict: bool) 
 {
     let status = screen(VERIFY_CODE, bytes, n);
     match status {
-        Status::Refused(number) => refused(number),
+        Status::Refused(number) => return refused(number),
         Status::Ready => {
             if verdict {
-                ready(plain_work(Kind::Nothing, VERIFY_CODE, &bytes[..0]))
+                return ready_plain(Kind::Nothing, VERIFY_CODE, &bytes[..0]);
             } else {
-                refused(BAD_SIGNATURE)
+                return refused(BAD_SIGNATURE);
             }
         }
     }

@@ -5,8 +5,8 @@ use mathlib.Core.Bool.{true}
 use mathlib.Core.List.{List, [], _++_, append-nil}
 use native.Mathlib.Omega.{arith}
 use native.Mathlib.Nat.{zero-add}
-use lib.ListN.{length, take, drop, replicate, length-append, length-replicate, replicate-append-replicate}
-use lib.Seq.{drop-at, length-take-le}
+use lib.ListN.{length, take, drop, replicate, length-append}
+use lib.Seq.{length-take-le}
 use borrow.Rule.Slice.PartMut.{midOf, putMid}
 use borrow.Author.Tests.{le-ltb}
 use Rattle.layout.specs.Sizes.{answerMax}
@@ -20,6 +20,8 @@ use Rattle.opening.specs.declared.Status.the-variants as status
 use Rattle.respond.specs.declared.Response.{Response}
 use Rattle.respond.specs.Program.{responseMax, responseOf, answerBytes, written}
 use Rattle.making.proofs.After.{SameAnswer}
+use Rattle.request.proofs.Sealing.{zs, drop-zeros}
+use Rattle.request.proofs.Sealing.{zs, drop-zeros}
 
 -- what `with_result` hands back
 abbrev pub responseWith : ℕ → ℕ → List ℕ → Response
@@ -34,16 +36,6 @@ pub refused-output : (w : Work) (s : Status) (n : ℕ) → s ≡ status.Refused 
 unfolding responseOf zeros
 refused-output w status.Ready n e = let z : _≡_ {A = ℕ} 0 1 = cc in absurd (omega arith)
 refused-output w (status.Refused m) n e = refl
-
-abbrev zs : ℕ → List ℕ
-zs n = replicate n 0
-
-dropped : (k n : ℕ) → k ≤ n → drop k (zs n) ≡ zs (n - k)
-dropped k n h =
-    let e : k + (n - k) ≡ n = omega arith in
-    ap (λ (i : ℕ). drop k (zs i)) (sym e)
-    ∙ ap (drop k) (sym (replicate-append-replicate k (n - k) 0))
-    ∙ drop-at (zs k) (zs (n - k)) k (length-replicate k 0)
 
 -- where the answer goes: all but the first 4 bytes
 abbrev pub room : List ℕ
@@ -63,7 +55,7 @@ module _ (done : Work) (end : finished done ≡ true) where
   left-there =
       let n = done .«answer_len» in
       rw (end, le-ltb answerMax n fits)
-      (ap (λ (l : List ℕ). take n (done .answer) ++ l) (ap (λ (k : ℕ). drop k (zs answerMax)) (zero-add n) ∙ dropped n answerMax fits))
+      (ap (λ (l : List ℕ). take n (done .answer) ++ l) (ap (λ (k : ℕ). drop k (zs answerMax)) (zero-add n) ∙ drop-zeros n answerMax fits))
 
   pub answered-output : (w : Work) → SameAnswer done w → length (done .answer) ≡ answerMax → (o : List ℕ) → o ≡ answerBuffer done room
       → responseWith 0 (done .«answer_len») (putMid 4 (responseMax - 4) (zs responseMax) o) ≡ responseOf (bytes4 0 ++ answerBytes w status.Ready)

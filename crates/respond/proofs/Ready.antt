@@ -12,7 +12,6 @@ use Rattle.layout.specs.Words.{bytes4}
 use Rattle.tree.specs.Tree.{wellFormed, lowestFree, nodeWith, defaultWords}
 use Rattle.tree.specs.Nodes.{treeIn}
 use Rattle.tree.proofs.WellFormed.{holder-only}
-use Rattle.work.specs.declared.Work.{Work}
 use Rattle.table.specs.Table.{numberOf, indexOk}
 use Rattle.work.specs.Entries.{wellShaped, finished}
 use Rattle.making.specs.Run.{allStores}
@@ -91,7 +90,7 @@ module _ (image : List ℕ) (r : Request) where
 
   -- so after all stores it is finished
   pub ready-finished : (o : Opened) → o ≡ openRequest image r → o .status ≡ status.Ready → length image ≡ imageWords
-      → (done : Work) → done ≡ allStores (o .work) image .work → finished done ≡ true
-  ready-finished o e ready long done d =
+      → finished (allStores (o .work) image .work) ≡ true
+  ready-finished o e ready long =
       let shaped : wellShaped (o .work) ≡ true = ap (λ (x : Opened). wellShaped (x .work)) e ∙ ready-shaped (sym (ap (λ (x : Opened). x .status) e) ∙ ready) in
-      ap finished d ∙ all-finished image long (o .work) shaped
+      all-finished image long (o .work) shaped

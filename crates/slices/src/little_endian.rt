@@ -75,16 +75,16 @@ pub fn pack(s: &[u8], at: usize) -> [u32; REGISTER_WORDS]
     out
 }
 
-// Byte j of a word, the lowest first.
-fn byte_of(w: u32, j: usize) -> u8
-    requires { ⌜ j < 4 ⌝ }
+// Byte j of a word, the lowest first; from byte 4 on 0.
+pub fn byte_of(w: u32, j: usize) -> u8
     ensures { λ r. ⌜ r ≡ byteOf w j ⌝ }
 {
     match j {
         0 => (w % 256) as u8,
         1 => (w / 256 % 256) as u8,
         2 => (w / 65536 % 256) as u8,
-        _ => (w / 16777216 % 256) as u8,
+        3 => (w / 16777216 % 256) as u8,
+        _ => 0,
     }
 }
 

@@ -4,7 +4,6 @@ ghost use Rattle.layout.specs.Sizes.{imageWords};
 ghost use Rattle.flat.specs.Flat.{workSize, workOf};
 ghost use Rattle.flat.specs.Forms.{leftIn, storeNumberIn, storeWords, storeHand, storeImageIn, answerNumberIn, answerWritten, answerBufferIn};
 use flat::WORK_WORDS;
-use flat::held;
 use layout::IMAGE_WORDS;
 
 #[no_mangle]

@@ -3,7 +3,6 @@ use lib.ListN.{length}
 use borrow.Author.Tests.{eq-eqb, ne-eqb}
 use Rattle.layout.specs.Sizes.{imageWords}
 use Rattle.layout.proofs.Cases.{told-no, told-yes}
-use Rattle.making.specs.Made.{workWith}
 use Rattle.opening.specs.Tasks.{bootOf}
 use Rattle.opening.specs.Works.{workAt}
 use Rattle.opening.specs.Openings.{openColdBoot}
@@ -17,7 +16,7 @@ boot-refused-requires : tie.Need-boot-refused-requires
 boot-refused-requires c κs = search needs
 
 returns : tie.Need-returns
-unfolding openColdBoot workAt workWith
+unfolding openColdBoot
 returns c =
     let a = c .before .before .before .before .before .args in
     booted-told (c .boot-refused .result) (openColdBoot (a .image .now) (bootOf (a .digest .now) (a .secret .now)))
@@ -30,7 +29,7 @@ boot-refused-requires-2 : tie.Need-boot-refused-requires-2
 boot-refused-requires-2 c κs = search needs
 
 returns-2 : tie.Need-returns-2
-unfolding openColdBoot workAt workWith
+unfolding openColdBoot
 returns-2 c =
     let a = c .before .before .before .before .before .before .before .args in
     booted-told (c .boot-refused2 .result) (openColdBoot (a .image .now) (bootOf (a .digest .now) (a .secret .now)))
@@ -39,21 +38,21 @@ returns-2 c =
       told-no (c .before .before .inputs-ok .ensures) (c .before .if2 .taken),
     ) (c .boot-refused2 .ensures))
 
-cold-work-requires : tie.Need-cold-work-requires
-cold-work-requires c κs = digest-length _ (told-yes (c .before .inputs-ok .ensures) (c .if2 .left))
+cold-values-requires : tie.Need-cold-values-requires
+cold-values-requires c κs = digest-length _ (told-yes (c .before .inputs-ok .ensures) (c .if2 .left))
 
-boot-ready-requires : tie.Need-boot-ready-requires
-boot-ready-requires c κs = search needs
+ready-with-requires : tie.Need-ready-with-requires
+ready-with-requires c κs = search needs
 
 returns-3 : tie.Need-returns-3
-unfolding openColdBoot workAt workWith
+unfolding openColdBoot workAt
 returns-3 c =
     let a = c .before .before .before .before .before .before .before .before .args in
-    booted-told (c .boot-ready .result) (openColdBoot (a .image .now) (bootOf (a .digest .now) (a .secret .now)))
+    booted-told (c .ready-with .result) (openColdBoot (a .image .now) (bootOf (a .digest .now) (a .secret .now)))
     (rw (
       eq-eqb (length (a .image .now)) imageWords (c .before .before .before .before .if1 .left),
       told-yes (c .before .before .before .inputs-ok .ensures) (c .before .before .if2 .left),
-    ) (rw (c .before .cold-work .ensures) at (c .boot-ready .ensures)))
+    ) (rw (c .before .cold-values .ensures) at (c .ready-with .ensures)))
 
 pub open-cold-boot-spec : {M : Type 1} → statement M
 open-cold-boot-spec =
@@ -64,6 +63,6 @@ open-cold-boot-spec =
     inputs-ok-requires
     boot-refused-requires-2
     returns-2
-    cold-work-requires
-    boot-ready-requires
+    cold-values-requires
+    ready-with-requires
     returns-3)

@@ -16,7 +16,7 @@ boot-refused-requires : tie.Need-boot-refused-requires
 boot-refused-requires c κs = search needs
 
 returns : tie.Need-returns
-unfolding openUpdateBoot workAt
+unfolding openUpdateBoot
 returns c =
     let a = c .before .before .before .before .before .args in
     booted-told (c .boot-refused .result) (openUpdateBoot (a .image .now) (bootOf (a .digest .now) (a .secret .now)) (a .verdict))
@@ -29,7 +29,7 @@ boot-refused-requires-2 : tie.Need-boot-refused-requires-2
 boot-refused-requires-2 c κs = search needs
 
 returns-2 : tie.Need-returns-2
-unfolding openUpdateBoot workAt
+unfolding openUpdateBoot
 returns-2 c =
     let a = c .before .before .before .before .before .before .before .args in
     booted-told (c .boot-refused2 .result) (openUpdateBoot (a .image .now) (bootOf (a .digest .now) (a .secret .now)) (a .verdict))
@@ -41,58 +41,49 @@ returns-2 c =
 is-intact-requires : tie.Need-is-intact-requires
 is-intact-requires c κs = search needs
 
-bare-work-requires : tie.Need-bare-work-requires
-bare-work-requires c κs = search needs
-
-boot-ready-requires : tie.Need-boot-ready-requires
-boot-ready-requires c κs = search needs
+ready-bare-requires : tie.Need-ready-bare-requires
+ready-bare-requires c κs = search needs
 
 returns-3 : tie.Need-returns-3
 unfolding openUpdateBoot workAt
 returns-3 c =
-    let a = c .before .before .before .before .before .before .before .before .before .before .args in
-    booted-told (c .boot-ready .result) (openUpdateBoot (a .image .now) (bootOf (a .digest .now) (a .secret .now)) (a .verdict))
+    let a = c .before .before .before .before .before .before .before .before .before .args in
+    booted-told (c .ready-bare .result) (openUpdateBoot (a .image .now) (bootOf (a .digest .now) (a .secret .now)) (a .verdict))
     (rw (
-      eq-eqb (length (a .image .now)) imageWords (c .before .before .before .before .before .before .if1 .left),
-      told-yes (c .before .before .before .before .before .inputs-ok .ensures) (c .before .before .before .before .if2 .left),
-      told-no (c .before .before .before .is-intact .ensures) (c .before .before .if3 .taken),
-    ) (rw (c .before .bare-work .ensures) at (c .boot-ready .ensures)))
+      eq-eqb (length (a .image .now)) imageWords (c .before .before .before .before .before .if1 .left),
+      told-yes (c .before .before .before .before .inputs-ok .ensures) (c .before .before .before .if2 .left),
+      told-no (c .before .before .is-intact .ensures) (c .before .if3 .taken),
+    ) (c .ready-bare .ensures))
 
-bare-work-requires-2 : tie.Need-bare-work-requires-2
-bare-work-requires-2 c κs = search needs
-
-boot-ready-requires-2 : tie.Need-boot-ready-requires-2
-boot-ready-requires-2 c κs = search needs
+ready-bare-requires-2 : tie.Need-ready-bare-requires-2
+ready-bare-requires-2 c κs = search needs
 
 returns-4 : tie.Need-returns-4
 unfolding openUpdateBoot workAt
 returns-4 c =
-    let a = c .before .before .before .before .before .before .before .before .before .before .before .args in
-    booted-told (c .boot-ready2 .result) (openUpdateBoot (a .image .now) (bootOf (a .digest .now) (a .secret .now)) (a .verdict))
+    let a = c .before .before .before .before .before .before .before .before .before .before .args in
+    booted-told (c .ready-bare2 .result) (openUpdateBoot (a .image .now) (bootOf (a .digest .now) (a .secret .now)) (a .verdict))
     (rw (
-      eq-eqb (length (a .image .now)) imageWords (c .before .before .before .before .before .before .before .if1 .left),
-      told-yes (c .before .before .before .before .before .before .inputs-ok .ensures) (c .before .before .before .before .before .if2 .left),
-      told-yes (c .before .before .before .before .is-intact .ensures) (c .before .before .before .if3 .left),
-      not-true (a .verdict) (c .before .before .if4 .taken),
-    ) (rw (c .before .bare-work2 .ensures) at (c .boot-ready2 .ensures)))
+      eq-eqb (length (a .image .now)) imageWords (c .before .before .before .before .before .before .if1 .left),
+      told-yes (c .before .before .before .before .before .inputs-ok .ensures) (c .before .before .before .before .if2 .left),
+      told-yes (c .before .before .before .is-intact .ensures) (c .before .before .if3 .left),
+      not-true (a .verdict) (c .before .if4 .taken),
+    ) (c .ready-bare2 .ensures))
 
-update-work-requires : tie.Need-update-work-requires
-update-work-requires c κs = digest-length _ (told-yes (c .before .before .before .before .inputs-ok .ensures) (c .before .before .before .if2 .left))
-
-boot-ready-requires-3 : tie.Need-boot-ready-requires-3
-boot-ready-requires-3 c κs = search needs
+updated-requires : tie.Need-updated-requires
+updated-requires c κs = digest-length _ (told-yes (c .before .before .before .before .inputs-ok .ensures) (c .before .before .before .if2 .left))
 
 returns-5 : tie.Need-returns-5
-unfolding openUpdateBoot workAt
+unfolding openUpdateBoot
 returns-5 c =
-    let a = c .before .before .before .before .before .before .before .before .before .before .before .args in
-    booted-told (c .boot-ready3 .result) (openUpdateBoot (a .image .now) (bootOf (a .digest .now) (a .secret .now)) (a .verdict))
+    let a = c .before .before .before .before .before .before .before .before .before .before .args in
+    booted-told (c .updated .result) (openUpdateBoot (a .image .now) (bootOf (a .digest .now) (a .secret .now)) (a .verdict))
     (rw (
-      eq-eqb (length (a .image .now)) imageWords (c .before .before .before .before .before .before .before .if1 .left),
-      told-yes (c .before .before .before .before .before .before .inputs-ok .ensures) (c .before .before .before .before .before .if2 .left),
-      told-yes (c .before .before .before .before .is-intact .ensures) (c .before .before .before .if3 .left),
-      not-false (a .verdict) (c .before .before .if4 .left),
-    ) (rw (c .before .update-work .ensures) at (c .boot-ready3 .ensures)))
+      eq-eqb (length (a .image .now)) imageWords (c .before .before .before .before .before .before .if1 .left),
+      told-yes (c .before .before .before .before .before .inputs-ok .ensures) (c .before .before .before .before .if2 .left),
+      told-yes (c .before .before .before .is-intact .ensures) (c .before .before .if3 .left),
+      not-false (a .verdict) (c .before .if4 .left),
+    ) (c .updated .ensures))
 
 pub open-update-boot-spec : {M : Type 1} → statement M
 open-update-boot-spec =
@@ -104,12 +95,9 @@ open-update-boot-spec =
     boot-refused-requires-2
     returns-2
     is-intact-requires
-    bare-work-requires
-    boot-ready-requires
+    ready-bare-requires
     returns-3
-    bare-work-requires-2
-    boot-ready-requires-2
+    ready-bare-requires-2
     returns-4
-    update-work-requires
-    boot-ready-requires-3
+    updated-requires
     returns-5)

@@ -1,81 +1,76 @@
--- `head_of` meets its contract: word by word. Assumes nothing.
-use Rattle.flat.specs.Flat.{headOf}
+-- `head_of` meets its contract: by the kind. Assumes nothing.
+use Rattle.flat.specs.Flat.{headOf, kindNumber, firstIndex, secondIndex}
 use borrow.Author.Needs.{needs}
 use Rattle.flat.proofs.words.head_of.Statement.{statement}
 use Rattle.flat.proofs.words.head_of.Tie as tie
+use Rattle.flat.proofs.words.head.Reads as head-reads
 
-kind-number-requires : tie.Need-kind-number-requires
-kind-number-requires c κs = search needs
+enum-told : tie.Need-enum-told
+enum-told c = search needs
 
-first-index-requires : tie.Need-first-index-requires
-first-index-requires c κs = search needs
+head-requires : tie.Need-head-requires
+head-requires c κs = search needs
 
-second-index-requires : tie.Need-second-index-requires
-second-index-requires c κs = search needs
+enum-told-2 : tie.Need-enum-told-2
+enum-told-2 c = search needs
 
-low-requires : tie.Need-low-requires
-low-requires c κs = search needs
+head-requires-2 : tie.Need-head-requires-2
+head-requires-2 c κs = search needs
 
-high-requires : tie.Need-high-requires
-high-requires c κs = search needs
+enum-known-kind : tie.Need-enum-known-kind
+enum-known-kind c = search needs
 
-low-requires-2 : tie.Need-low-requires-2
-low-requires-2 c κs = search needs
+head-requires-3 : tie.Need-head-requires-3
+head-requires-3 c κs = search needs
 
-high-requires-2 : tie.Need-high-requires-2
-high-requires-2 c κs = search needs
+enum-known-kind-2 : tie.Need-enum-known-kind-2
+enum-known-kind-2 c = search needs
 
-low-requires-3 : tie.Need-low-requires-3
-low-requires-3 c κs = search needs
+head-requires-4 : tie.Need-head-requires-4
+head-requires-4 c κs = search needs
 
-high-requires-3 : tie.Need-high-requires-3
-high-requires-3 c κs = search needs
+enum-told-3 : tie.Need-enum-told-3
+enum-told-3 c = search needs
 
-low-requires-4 : tie.Need-low-requires-4
-low-requires-4 c κs = search needs
-
-high-requires-4 : tie.Need-high-requires-4
-high-requires-4 c κs = search needs
+head-requires-5 : tie.Need-head-requires-5
+head-requires-5 c κs = search needs
 
 returns : tie.Need-returns
-unfolding headOf
-returns c =
-    let c2 = c .before .before in
-    let c3 = c2 .before in
-    let c4 = c3 .before in
-    let c5 = c4 .before in
-    let c6 = c5 .before in
-    let c7 = c6 .before in
-    let c8 = c7 .before in
-    let c9 = c8 .before in
-    let c10 = c9 .before in
-    rw (
-      c .high4 .ensures,
-      c .before .low4 .ensures,
-      c2 .high3 .ensures,
-      c3 .low3 .ensures,
-      c4 .high2 .ensures,
-      c5 .low2 .ensures,
-      c6 .high .ensures,
-      c7 .low .ensures,
-      c8 .second-index .ensures,
-      c9 .first-index .ensures,
-      c10 .kind-number .ensures,
-    )
+unfolding headOf kindNumber firstIndex secondIndex
+returns c = rw (c .before .enum-told .given .1) (c .head .ensures)
+
+returns-2 : tie.Need-returns-2
+unfolding headOf kindNumber firstIndex secondIndex
+returns-2 c = rw (c .before .enum-told2 .given .1) (c .head2 .ensures)
+
+returns-3 : tie.Need-returns-3
+unfolding headOf kindNumber firstIndex secondIndex
+returns-3 c = rw (c .before .before .kind .given .1) (c .head3 .ensures)
+
+returns-4 : tie.Need-returns-4
+unfolding headOf kindNumber firstIndex secondIndex
+returns-4 c = rw (c .before .before .kind2 .given .1) (c .head4 .ensures)
+
+returns-5 : tie.Need-returns-5
+unfolding headOf kindNumber firstIndex secondIndex
+returns-5 c = rw (c .before .enum-told3 .given .1) (c .head5 .ensures)
 
 pub head-of-spec : {M : Type 1} → statement M
 head-of-spec =
     tie.close
     (tie.spec
-    kind-number-requires
-    first-index-requires
-    second-index-requires
-    low-requires
-    high-requires
-    low-requires-2
-    high-requires-2
-    low-requires-3
-    high-requires-3
-    low-requires-4
-    high-requires-4
-    returns)
+    enum-told
+    head-requires
+    enum-told-2
+    head-requires-2
+    enum-known-kind
+    head-requires-3
+    enum-known-kind-2
+    head-requires-4
+    enum-told-3
+    head-requires-5
+    returns
+    returns-2
+    returns-3
+    returns-4
+    returns-5)

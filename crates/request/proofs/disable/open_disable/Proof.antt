@@ -23,18 +23,6 @@ enum-known-status c = search needs
 refused-requires : tie.Need-refused-requires
 refused-requires c κs = search needs
 
-enum-told : tie.Need-enum-told
-enum-told c = search needs
-
-slice-aggregate-plain-work : tie.Need-slice-aggregate-plain-work
-slice-aggregate-plain-work c = search needs
-
-plain-work-requires : tie.Need-plain-work-requires
-plain-work-requires c κs = search needs
-
-ready-requires : tie.Need-ready-requires
-ready-requires c κs = search needs
-
 returns : tie.Need-returns
 returns c =
     let a = c .before .before .before .before .before .before .before .args in
@@ -42,14 +30,22 @@ returns c =
     (ap (eqb (length (a .bytes .now))) (sym (c .before .before .before .before .before .before .before .pre)))
     (told (c .before .before .before .before .screen .ensures) (c .before .before .status .given .1)))
 
+enum-told : tie.Need-enum-told
+enum-told c = search needs
+
+slice-aggregate-ready-plain : tie.Need-slice-aggregate-ready-plain
+slice-aggregate-ready-plain c = search needs
+
+ready-plain-requires : tie.Need-ready-plain-requires
+ready-plain-requires c κs = search needs
+
 returns-2 : tie.Need-returns-2
 unfolding screenedOpened workAt
 returns-2 c =
-    let a = c .before .before .before .before .before .before .before .before .args in
-    (rw (c .before .plain-work .ensures) at (c .ready .ensures)) ∙ sym (by-screen disableAttestation (a .image .now)
-    (requestOf disableCode (a .bytes .now) 0 [] false) (a .n) _
-    (ap (eqb (length (a .bytes .now))) (sym (c .before .before .before .before .before .before .before .before .pre)))
-    (told (c .before .before .before .before .before .screen .ensures) (c .before .before .before .enum-told .given .1)))
+    let a = c .before .before .before .before .before .before .before .args in
+    c .ready-plain .ensures ∙ sym (by-screen disableAttestation (a .image .now) (requestOf disableCode (a .bytes .now) 0 [] false) (a .n) _
+    (ap (eqb (length (a .bytes .now))) (sym (c .before .before .before .before .before .before .before .pre)))
+    (told (c .before .before .before .before .screen .ensures) (c .before .before .enum-told .given .1)))
 
 pub open-disable-spec : {M : Type 1} → statement M
 open-disable-spec =
@@ -58,9 +54,8 @@ open-disable-spec =
     screen-requires
     enum-known-status
     refused-requires
-    enum-told
-    slice-aggregate-plain-work
-    plain-work-requires
-    ready-requires
     returns
+    enum-told
+    slice-aggregate-ready-plain
+    ready-plain-requires
     returns-2)

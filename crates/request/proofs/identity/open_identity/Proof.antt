@@ -23,35 +23,6 @@ enum-known-status c = search needs
 refused-requires : tie.Need-refused-requires
 refused-requires c κs = search needs
 
-enum-told : tie.Need-enum-told
-enum-told c = search needs
-
-handoff-ok-requires : tie.Need-handoff-ok-requires
-handoff-ok-requires c κs = search needs
-
-sub-plain-work : tie.Need-sub-plain-work
-sub-plain-work c = search needs
-
-part-plain-work-start : tie.Need-part-plain-work-start
-part-plain-work-start c = search needs
-
-part-plain-work-end : tie.Need-part-plain-work-end
-part-plain-work-end c =
-    omega (
-      arith,
-      handoff-length (c .before .before .before .before .before .before .before .before .args .handoff .now)
-          (told (c .before .handoff-ok .ensures) (c .if1 .taken)),
-    )
-
-plain-work-requires : tie.Need-plain-work-requires
-plain-work-requires c κs = search needs
-
-ready-requires : tie.Need-ready-requires
-ready-requires c κs = search needs
-
-refused-requires-2 : tie.Need-refused-requires-2
-refused-requires-2 c κs = search needs
-
 returns : tie.Need-returns
 returns c =
     let a = c .before .before .before .before .before .before .before .before .args in
@@ -59,27 +30,49 @@ returns c =
     (ap (eqb (length (a .bytes .now))) (sym (c .before .before .before .before .before .before .before .before .pre)))
     (told (c .before .before .before .before .screen .ensures) (c .before .before .status .given .1)))
 
+enum-told : tie.Need-enum-told
+enum-told c = search needs
+
+handoff-ok-requires : tie.Need-handoff-ok-requires
+handoff-ok-requires c κs = search needs
+
+sub-ready-plain : tie.Need-sub-ready-plain
+sub-ready-plain c = search needs
+
+part-ready-plain-start : tie.Need-part-ready-plain-start
+part-ready-plain-start c = search needs
+
+part-ready-plain-end : tie.Need-part-ready-plain-end
+part-ready-plain-end c =
+    omega (
+      arith,
+      handoff-length (c .before .before .before .before .before .before .before .before .args .handoff .now)
+          (told (c .before .handoff-ok .ensures) (c .if1 .taken)),
+    )
+
+ready-plain-requires : tie.Need-ready-plain-requires
+ready-plain-requires c κs = search needs
+
 returns-2 : tie.Need-returns-2
 unfolding screenedOpened workAt
 returns-2 c =
-    let a = c .before .before .before .before .before .before .before .before .before .before .before .args in
-    let r = requestOf identityCode (a .bytes .now) 0 (a .handoff .now) false in
-    let long = ap (eqb (length (a .bytes .now))) (sym (c .before .before .before .before .before .before .before .before .before .before .before .pre)) in
-    let screened = told (c .before .before .before .before .before .before .before .screen .ensures) (c .before .before .before .before .before .enum-told .given .1) in
-    rw (by-screen identityKey (a .image .now) r (a .n) _ long screened, told (c .before .before .before .before .handoff-ok .ensures) (c .before .before .before .if1 .taken))
-    (rw (c .before .plain-work .ensures) at (c .ready .ensures))
+    let a = c .before .before .before .before .before .before .before .before .before .before .args in
+    let screened = by-screen identityKey (a .image .now) (requestOf identityCode (a .bytes .now) 0 (a .handoff .now) false) (a .n) _
+    (ap (eqb (length (a .bytes .now))) (sym (c .before .before .before .before .before .before .before .before .before .before .pre)))
+    (told (c .before .before .before .before .before .before .screen .ensures) (c .before .before .before .before .enum-told .given .1)) in
+    rw (screened, told (c .before .before .before .handoff-ok .ensures) (c .before .before .if1 .taken)) (c .ready-plain .ensures)
+
+refused-requires-2 : tie.Need-refused-requires-2
+refused-requires-2 c κs = search needs
 
 returns-3 : tie.Need-returns-3
 unfolding screenedOpened
 returns-3 c =
     let a = c .before .before .before .before .before .before .before .before .before .args in
-    rw (
-      (by-screen identityKey (a .image .now) (requestOf identityCode (a .bytes .now) 0 (a .handoff .now) false) (a .n) _ (ap (eqb (length (a .bytes .now)))
-          (sym (c .before .before .before .before .before .before .before .before .before .pre))) (told
-          (c .before .before .before .before .before .screen .ensures)
-          (c .before .before .before .enum-told .given .1))),
-      told (c .before .before .handoff-ok .ensures) (c .before .if1 .left),
-    ) (c .refused2 .ensures)
+    let screened = by-screen identityKey (a .image .now) (requestOf identityCode (a .bytes .now) 0 (a .handoff .now) false) (a .n) _
+    (ap (eqb (length (a .bytes .now))) (sym (c .before .before .before .before .before .before .before .before .before .pre)))
+    (told (c .before .before .before .before .before .screen .ensures) (c .before .before .before .enum-told .given .1)) in
+    rw (screened, told (c .before .before .handoff-ok .ensures) (c .before .if1 .left)) (c .refused2 .ensures)
 
 pub open-identity-spec : {M : Type 1} → statement M
 open-identity-spec =
@@ -88,14 +81,13 @@ open-identity-spec =
     screen-requires
     enum-known-status
     refused-requires
+    returns
     enum-told
     handoff-ok-requires
-    sub-plain-work
-    part-plain-work-start
-    part-plain-work-end
-    plain-work-requires
-    ready-requires
-    refused-requires-2
-    returns
+    sub-ready-plain
+    part-ready-plain-start
+    part-ready-plain-end
+    ready-plain-requires
     returns-2
+    refused-requires-2
     returns-3)

@@ -6,15 +6,20 @@ use Rattle.request.proofs.stash.declined.Tie as tie
 four-requires : tie.Need-four-requires
 four-requires c κs = search needs
 
-slice-aggregate-plain-work : tie.Need-slice-aggregate-plain-work
-slice-aggregate-plain-work c = search needs
+slice-aggregate-ready-plain : tie.Need-slice-aggregate-ready-plain
+slice-aggregate-ready-plain c = search needs
 
-plain-work-requires : tie.Need-plain-work-requires
-plain-work-requires c κs = search needs
+ready-plain-requires : tie.Need-ready-plain-requires
+ready-plain-requires c κs = search needs
 
 returns : tie.Need-returns
-returns c = rw (← c .before .before .four .ensures) (c .plain-work .ensures)
+returns c = rw (← c .before .before .four .ensures) (c .ready-plain .ensures)
 
 pub declined-spec : {M : Type 1} → statement M
 declined-spec =
-    tie.close (tie.spec four-requires slice-aggregate-plain-work plain-work-requires returns)
+    tie.close
+    (tie.spec
+    four-requires
+    slice-aggregate-ready-plain
+    ready-plain-requires
+    returns)

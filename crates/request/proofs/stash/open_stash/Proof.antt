@@ -21,6 +21,13 @@ enum-known-status c = search needs
 refused-requires : tie.Need-refused-requires
 refused-requires c κs = search needs
 
+returns : tie.Need-returns
+returns c =
+    let a = c .before .before .before .before .before .before .before .args in
+    c .refused .ensures ∙ sym (by-screen stashMeasurement (a .image .now) (requestOf stashCode (a .bytes .now) (a .caller) [] false) (a .n) _
+    (ap (eqb (length (a .bytes .now))) (sym (c .before .before .before .before .before .before .before .pre .1)))
+    (told (c .before .before .before .before .screen .ensures) (c .before .before .status .given .1)))
+
 enum-told : tie.Need-enum-told
 enum-told c = search needs
 
@@ -28,13 +35,6 @@ stash-ready-requires : tie.Need-stash-ready-requires
 stash-ready-requires c κs =
     let g = c .before .before .before .before .before in
     (g .pre .0, screened-length stashCode (g .args .bytes .now) (g .args .n) (told (c .before .before .screen .ensures) (c .enum-told .given .1)) ∙ g .pre .1)
-
-returns : tie.Need-returns
-returns c =
-    let a = c .before .before .before .before .before .before .before .args in
-    c .refused .ensures ∙ sym (by-screen stashMeasurement (a .image .now) (requestOf stashCode (a .bytes .now) (a .caller) [] false) (a .n) _
-    (ap (eqb (length (a .bytes .now))) (sym (c .before .before .before .before .before .before .before .pre .1)))
-    (told (c .before .before .before .before .screen .ensures) (c .before .before .status .given .1)))
 
 returns-2 : tie.Need-returns-2
 returns-2 c =
@@ -50,7 +50,7 @@ open-stash-spec =
     screen-requires
     enum-known-status
     refused-requires
+    returns
     enum-told
     stash-ready-requires
-    returns
     returns-2)

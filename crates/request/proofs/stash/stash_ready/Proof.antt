@@ -19,14 +19,9 @@ shared-slice-read-if1 c = search needs
 declined-requires : tie.Need-declined-requires
 declined-requires c κs = search needs
 
-ready-requires : tie.Need-ready-requires
-ready-requires c κs = search needs
-
 returns : tie.Need-returns
 unfolding screenedOpened viewIn workAt
-returns c =
-    let a = c .before .before .before .before .before .before .args in
-    rw (ne-eqb (getD (a .image .now) attestationAt 0) 1 (c .before .before .if1 .taken)) (rw (c .before .declined .ensures) at (c .ready .ensures))
+returns c = rw (ne-eqb (getD (c .before .before .before .before .before .args .image .now) attestationAt 0) 1 (c .before .if1 .taken)) (c .declined .ensures)
 
 well-formed-requires : tie.Need-well-formed-requires
 well-formed-requires c κs = search needs
@@ -37,52 +32,39 @@ refused-requires c κs = search needs
 returns-2 : tie.Need-returns-2
 unfolding screenedOpened viewIn workAt
 returns-2 c =
-    let a = c .before .before .before .before .before .before .before .args in
     rw (
-      eq-eqb (getD (a .image .now) attestationAt 0) 1 (c .before .before .before .if1 .left),
+      eq-eqb (getD (c .before .before .before .before .before .before .before .args .image .now) attestationAt 0) 1 (c .before .before .before .if1 .left),
       told (c .before .before .well-formed .ensures) (not-true _ (c .before .if2 .taken)),
     ) (c .refused .ensures)
 
 free-index-requires : tie.Need-free-index-requires
 free-index-requires c κs = search needs
 
-stash-work-requires : tie.Need-stash-work-requires
-stash-work-requires c κs = search needs
-
-ready-requires-2 : tie.Need-ready-requires-2
-ready-requires-2 c κs = search needs
+accepted-requires : tie.Need-accepted-requires
+accepted-requires c κs = search needs
 
 returns-3 : tie.Need-returns-3
 unfolding screenedOpened viewIn
 returns-3 c =
-    let a = c .before .before .before .before .before .before .before .before .before .before .args in
+    let a = c .before .before .before .before .before .before .before .before .before .args in
     rw (
-      eq-eqb (getD (a .image .now) attestationAt 0) 1 (c .before .before .before .before .before .before .if1 .left),
-      told
-          (c .before .before .before .before .before .well-formed .ensures) (not-false _ (c .before .before .before .before .if2 .left)),
-      lt-leb nodeCount
-          (lowestFree nodeCount (treeIn (a .image .now)))
-          (omega (arith, c .before .before .before .free-index .ensures .0)),
-    ) (rw (c .before .stash-work .ensures) at (c .ready2 .ensures))
+      eq-eqb (getD (a .image .now) attestationAt 0) 1 (c .before .before .before .before .before .if1 .left),
+      told (c .before .before .before .before .well-formed .ensures) (not-false _ (c .before .before .before .if2 .left)),
+      lt-leb nodeCount (lowestFree nodeCount (treeIn (a .image .now))) (omega (arith, c .before .before .free-index .ensures .0)),
+    ) (c .accepted .ensures)
 
 declined-requires-2 : tie.Need-declined-requires-2
 declined-requires-2 c κs = search needs
 
-ready-requires-3 : tie.Need-ready-requires-3
-ready-requires-3 c κs = search needs
-
 returns-4 : tie.Need-returns-4
 unfolding screenedOpened viewIn workAt
 returns-4 c =
-    let a = c .before .before .before .before .before .before .before .before .before .before .args in
+    let a = c .before .before .before .before .before .before .before .before .before .args in
     rw (
-      eq-eqb (getD (a .image .now) attestationAt 0) 1 (c .before .before .before .before .before .before .if1 .left),
-      told
-          (c .before .before .before .before .before .well-formed .ensures) (not-false _ (c .before .before .before .before .if2 .left)),
-      le-leb nodeCount
-          (lowestFree nodeCount (treeIn (a .image .now)))
-          (omega (arith, c .before .before .before .free-index .ensures .0)),
-    ) (rw (c .before .declined2 .ensures) at (c .ready3 .ensures))
+      eq-eqb (getD (a .image .now) attestationAt 0) 1 (c .before .before .before .before .before .if1 .left),
+      told (c .before .before .before .before .well-formed .ensures) (not-false _ (c .before .before .before .if2 .left)),
+      le-leb nodeCount (lowestFree nodeCount (treeIn (a .image .now))) (omega (arith, c .before .before .free-index .ensures .0)),
+    ) (c .declined2 .ensures)
 
 pub stash-ready-spec : {M : Type 1} → statement M
 stash-ready-spec =
@@ -90,15 +72,12 @@ stash-ready-spec =
     (tie.spec
     shared-slice-read-if1
     declined-requires
-    ready-requires
     returns
     well-formed-requires
     refused-requires
     returns-2
     free-index-requires
-    stash-work-requires
-    ready-requires-2
+    accepted-requires
     returns-3
     declined-requires-2
-    ready-requires-3
     returns-4)

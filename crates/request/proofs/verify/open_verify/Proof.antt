@@ -22,21 +22,6 @@ enum-known-status c = search needs
 refused-requires : tie.Need-refused-requires
 refused-requires c κs = search needs
 
-enum-told : tie.Need-enum-told
-enum-told c = search needs
-
-slice-aggregate-plain-work : tie.Need-slice-aggregate-plain-work
-slice-aggregate-plain-work c = search needs
-
-plain-work-requires : tie.Need-plain-work-requires
-plain-work-requires c κs = search needs
-
-ready-requires : tie.Need-ready-requires
-ready-requires c κs = search needs
-
-refused-requires-2 : tie.Need-refused-requires-2
-refused-requires-2 c κs = search needs
-
 returns : tie.Need-returns
 returns c =
     let a = c .before .before .before .before .before .before .before .args in
@@ -44,25 +29,35 @@ returns c =
     (ap (eqb (length (a .bytes .now))) (sym (c .before .before .before .before .before .before .before .pre)))
     (told (c .before .before .before .before .screen .ensures) (c .before .before .status .given .1)))
 
+enum-told : tie.Need-enum-told
+enum-told c = search needs
+
+slice-aggregate-ready-plain : tie.Need-slice-aggregate-ready-plain
+slice-aggregate-ready-plain c = search needs
+
+ready-plain-requires : tie.Need-ready-plain-requires
+ready-plain-requires c κs = search needs
+
 returns-2 : tie.Need-returns-2
 unfolding screenedOpened workAt
 returns-2 c =
-    let a = c .before .before .before .before .before .before .before .before .before .args in
-    let r = requestOf verifyCode (a .bytes .now) 0 [] (a .verdict) in
-    let long = ap (eqb (length (a .bytes .now))) (sym (c .before .before .before .before .before .before .before .before .before .pre)) in
-    let screened = told (c .before .before .before .before .before .before .screen .ensures) (c .before .before .before .before .enum-told .given .1) in
-    rw (by-screen verifySignature (a .image .now) r (a .n) _ long screened, c .before .before .before .if1 .taken) (rw (c .before .plain-work .ensures) at (c .ready .ensures))
+    let a = c .before .before .before .before .before .before .before .before .args in
+    let screened = by-screen verifySignature (a .image .now) (requestOf verifyCode (a .bytes .now) 0 [] (a .verdict)) (a .n) _
+    (ap (eqb (length (a .bytes .now))) (sym (c .before .before .before .before .before .before .before .before .pre)))
+    (told (c .before .before .before .before .before .screen .ensures) (c .before .before .before .enum-told .given .1)) in
+    rw (screened, c .before .before .if1 .taken) (c .ready-plain .ensures)
+
+refused-requires-2 : tie.Need-refused-requires-2
+refused-requires-2 c κs = search needs
 
 returns-3 : tie.Need-returns-3
 unfolding screenedOpened
 returns-3 c =
     let a = c .before .before .before .before .before .before .before .args in
-    rw (
-      (by-screen verifySignature (a .image .now) (requestOf verifyCode (a .bytes .now) 0 [] (a .verdict)) (a .n) _
-          (ap (eqb (length (a .bytes .now))) (sym (c .before .before .before .before .before .before .before .pre)))
-          (told (c .before .before .before .before .screen .ensures) (c .before .before .enum-told .given .1))),
-      c .before .if1 .left,
-    ) (c .refused2 .ensures)
+    let screened = by-screen verifySignature (a .image .now) (requestOf verifyCode (a .bytes .now) 0 [] (a .verdict)) (a .n) _
+    (ap (eqb (length (a .bytes .now))) (sym (c .before .before .before .before .before .before .before .pre)))
+    (told (c .before .before .before .before .screen .ensures) (c .before .before .enum-told .given .1)) in
+    rw (screened, c .before .if1 .left) (c .refused2 .ensures)
 
 pub open-verify-spec : {M : Type 1} → statement M
 open-verify-spec =
@@ -71,11 +66,10 @@ open-verify-spec =
     screen-requires
     enum-known-status
     refused-requires
-    enum-told
-    slice-aggregate-plain-work
-    plain-work-requires
-    ready-requires
-    refused-requires-2
     returns
+    enum-told
+    slice-aggregate-ready-plain
+    ready-plain-requires
     returns-2
+    refused-requires-2
     returns-3)

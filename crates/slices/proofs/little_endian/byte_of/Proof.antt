@@ -1,10 +1,18 @@
--- The four digits base 256, each below 256 by its remainder.
+-- The four digits base 256, each below 256 by its remainder; a word is below 256 ^ 4, so the digits past them are 0.
 
+use Prim.Native.Nat.{ℕ, _/_, _^_, _≤_, _<_}
+use native.Mathlib.Nat.{zero-lt-suc, lt-of-lt-of-le, pow-le-pow-right, div-eq-of-lt}
 use native.Mathlib.Omega.{arith}
 use mathlib.Core.Path.{_≡_}
+use Rattle.layout.specs.Words.{byteOf}
 use borrow.Author.Needs.{needs}
 use Rattle.slices.proofs.little_endian.byte_of.Statement.{statement}
 use Rattle.slices.proofs.little_endian.byte_of.Tie as tie
+
+past : (w j : ℕ) → w < 256 ^ 4 → 4 ≤ j → 0 ≡ byteOf w j
+past w j s h =
+    let z : w / 256 ^ j ≡ 0 = div-eq-of-lt (lt-of-lt-of-le s (pow-le-pow-right (zero-lt-suc 255) h)) in
+    rw z
 
 cast-result : tie.Need-cast-result
 cast-result c = search needs
@@ -28,8 +36,12 @@ returns-3 : tie.Need-returns-3
 returns-3 c = rw (c .match .keys3)
 
 returns-4 : tie.Need-returns-4
-returns-4 c = let e : c .before .args .j ≡ 3 = omega (arith, c .match .rest .1, c .match .rest .0 .1, c .match .rest .0 .0 .1) in
-    rw e
+returns-4 c = rw (c .match .keys4)
+
+returns-5 : tie.Need-returns-5
+returns-5 c =
+    past (c .before .args .w) (c .before .args .j) (omega arith)
+    (omega (arith, c .match .rest .1, c .match .rest .0 .1, c .match .rest .0 .0 .1, c .match .rest .0 .0 .0 .1))
 
 pub byte-of-spec : {M : Type 1} → statement M
 byte-of-spec =
@@ -42,4 +54,5 @@ byte-of-spec =
     returns
     returns-2
     returns-3
-    returns-4)
+    returns-4
+    returns-5)

@@ -1,0 +1,37 @@
+-- The callees, put together.
+use borrow.Author.Needs.{needs}
+use Rattle.boot.proofs.update.root_row.Statement.{statement}
+use Rattle.boot.proofs.update.root_row.Tie as tie
+
+mul-bytes-in : tie.Need-mul-bytes-in
+mul-bytes-in c = search needs
+
+add-bytes-in : tie.Need-add-bytes-in
+add-bytes-in c = search needs
+
+add-bytes-in-2 : tie.Need-add-bytes-in-2
+add-bytes-in-2 c = search needs
+
+bytes-in-requires : tie.Need-bytes-in-requires
+bytes-in-requires c κs = search needs
+
+extend-requires : tie.Need-extend-requires
+extend-requires c κs = search needs
+
+measurements-row-requires : tie.Need-measurements-row-requires
+measurements-row-requires c κs = search needs
+
+returns : tie.Need-returns
+returns c = rw (c .measurements-row .ensures, c .before .extend .ensures, c .before .before .bytes-in .ensures)
+
+pub root-row-spec : {M : Type 1} → statement M
+root-row-spec =
+    tie.close
+    (tie.spec
+    mul-bytes-in
+    add-bytes-in
+    add-bytes-in-2
+    bytes-in-requires
+    extend-requires
+    measurements-row-requires
+    returns)

@@ -1,0 +1,32 @@
+-- `answering` meets its contract: each field is read from the words. Assumes nothing.
+use Rattle.layout.specs.Words.{zeros}
+use Rattle.flat.specs.Flat.{workOf, answeringOf}
+use borrow.Author.Needs.{needs}
+use Rattle.held.proofs.answering.Statement.{statement}
+use Rattle.held.proofs.answering.Tie as tie
+
+kind-in-requires : tie.Need-kind-in-requires
+kind-in-requires c κs = search needs
+
+answer-in-requires : tie.Need-answer-in-requires
+answer-in-requires c κs = search needs
+
+position-in-requires : tie.Need-position-in-requires
+position-in-requires c κs = search needs
+
+answer-len-in-requires : tie.Need-answer-len-in-requires
+answer-len-in-requires c κs = search needs
+
+returns : tie.Need-returns
+unfolding workOf answeringOf zeros
+returns c = rw (c .answer-len-in .ensures, c .before .position-in .ensures, c .before .before .answer-in .ensures, c .before .before .before .kind-in .ensures)
+
+pub answering-spec : {M : Type 1} → statement M
+answering-spec =
+    tie.close
+    (tie.spec
+    kind-in-requires
+    answer-in-requires
+    position-in-requires
+    answer-len-in-requires
+    returns)

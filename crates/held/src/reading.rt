@@ -1,0 +1,88 @@
+// The work that any words are: its kind, position, answer and answer's length. What is past the end is 0.
+ghost use mathlib.Core.Path.{_≡_};
+ghost use Prim.Native.Nat.{_<_};
+ghost use Rattle.flat.specs.Flat.{workSize, joinedOf, longAt, kindOf, positionOf, answerBytes, workOf};
+use flat::words::ANSWER_IN;
+use flat::words::FIRST_IN;
+use flat::words::LENGTH_IN;
+use flat::words::POSITION_IN;
+use flat::words::SECOND_IN;
+use layout::ANSWER_MAX;
+use slices::image::word;
+use slices::little_endian::byte_of;
+use table::Kind;
+use table::StashAt;
+
+fn joined(low: u32, high: u32) -> usize
+    ensures { λ r. ⌜ r ≡ joinedOf low high ⌝ }
+{
+    (low as usize) + 4294967296 * (high as usize)
+}
+
+// The number of the two words from an index on.
+fn long_in(words: &[u32], at: usize) -> usize
+    requires { ⌜ at < workSize ⌝ }
+    ensures { λ r. ⌜ r ≡ longAt (now (words .entry)) at ⌝ }
+{
+    joined(word(words, at), word(words, at + 1))
+}
+
+fn kind_of(number: u32, first: usize, second: usize) -> Kind
+    ensures { λ r. ⌜ r ≡ kindOf number first second ⌝ }
+{
+    match number {
+        1 => Kind::Disabling,
+        2 => Kind::Stash(StashAt {
+            node: first,
+            holder: second,
+        }),
+        3 => Kind::Update(first),
+        4 => Kind::ColdBoot,
+        _ => Kind::Nothing,
+    }
+}
+
+// A number that is no kind's is past its last store.
+fn position_of(number: u32, position: usize) -> usize
+    ensures { λ r. ⌜ r ≡ positionOf number position ⌝ }
+{
+    if number < 5 {
+        return position;
+    }
+    1
+}
+
+pub(crate) fn kind_in(words: &[u32]) -> Kind
+    ensures { λ r. ⌜ r ≡ workOf (now (words .entry)) .kind ⌝ }
+{
+    kind_of(
+        word(words, 0),
+        long_in(words, FIRST_IN),
+        long_in(words, SECOND_IN),
+    )
+}
+
+pub(crate) fn position_in(words: &[u32]) -> usize
+    ensures { λ r. ⌜ r ≡ workOf (now (words .entry)) .position ⌝ }
+{
+    position_of(word(words, 0), long_in(words, POSITION_IN))
+}
+
+pub(crate) fn answer_len_in(words: &[u32]) -> usize
+    ensures { λ r. ⌜ r ≡ workOf (now (words .entry)) .«answer_len» ⌝ }
+{
+    long_in(words, LENGTH_IN)
+}
+
+pub(crate) fn answer_in(words: &[u32]) -> [u8; ANSWER_MAX]
+    ensures { λ r. ⌜ r ≡ answerBytes (now (words .entry)) ⌝ }
+{
+    let mut out = [0u8; ANSWER_MAX];
+    let mut k = 0;
+    while k < ANSWER_MAX {
+        let w = word(words, ANSWER_IN + k / 4);
+        out[k] = byte_of(w, k % 4);
+        k += 1;
+    }
+    out
+}

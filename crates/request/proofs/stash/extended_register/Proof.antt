@@ -1,0 +1,31 @@
+-- The callees, put together.
+use Rattle.opening.specs.Works.{registerIn}
+use borrow.Author.Needs.{needs}
+use Rattle.request.proofs.stash.extended_register.Statement.{statement}
+use Rattle.request.proofs.stash.extended_register.Tie as tie
+
+bytes-in-requires : tie.Need-bytes-in-requires
+bytes-in-requires c κs = search needs
+
+extend-requires : tie.Need-extend-requires
+extend-requires c κs = search needs
+
+slice-aggregate-pack : tie.Need-slice-aggregate-pack
+slice-aggregate-pack c = search needs
+
+pack-requires : tie.Need-pack-requires
+pack-requires c κs = search needs
+
+returns : tie.Need-returns
+unfolding registerIn
+returns c = rw (c .pack .ensures, c .before .before .extend .ensures, c .before .before .before .bytes-in .ensures)
+
+pub extended-register-spec : {M : Type 1} → statement M
+extended-register-spec =
+    tie.close
+    (tie.spec
+    bytes-in-requires
+    extend-requires
+    slice-aggregate-pack
+    pack-requires
+    returns)
