@@ -12,8 +12,8 @@ use Rattle.layout.proofs.Packing.{length-words, getD-bytes, bytes-words}
 use Rattle.table.specs.declared.Kind.{Kind}
 use Rattle.table.specs.declared.Kind.the-variants.{Nothing, Disabling, Stash, Update, ColdBoot}
 use Rattle.work.specs.declared.Work.{Work}
-use Rattle.flat.specs.Flat.{registerWord, journeyWord, nodeWord, secretWord, answerWord, answerWords, lowOf, highOf, joinedOf, kindNumber, firstIndex, secondIndex, headOf, rowOf, workWords, kindOf, positionOf, answerBytes, workOf}
-use Rattle.flat.proofs.Rows.{From, Long, part-here, row-register, row-journey, row-node, row-secret, row-answer}
+use Rattle.flat.specs.Flat.{registerWord, journeyWord, nodeWord, secretWord, answerWord, answerWords, lowOf, highOf, joinedOf, kindNumber, firstIndex, secondIndex, headOf, PartsLong, rowOf, workWords, kindOf, positionOf, answerBytes, workOf}
+use Rattle.flat.proofs.Rows.{From, part-here, row-register, row-journey, row-node, row-secret, row-answer}
 
 pub joined-back : (n : ℕ) → joinedOf (lowOf n) (highOf n) ≡ n
 joined-back n = omega arith
@@ -45,7 +45,7 @@ pub record Typed (w : Work) : Type 0 where
   pub bytes-small : (i : ℕ) → getD (w .answer) i 0 < 256
 
 module _ (w : Work) (t : Typed w) where
-  long : Long (headOf w) (w .register) (w .journey) (w .node) (w .secret) (wordsAt answerWords (w .answer) 0)
+  long : PartsLong (headOf w) (w .register) (w .journey) (w .node) (w .secret) (wordsAt answerWords (w .answer) 0)
   unfolding headOf
   long =
       record {

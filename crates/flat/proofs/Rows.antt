@@ -9,7 +9,7 @@ use lib.Seq.{getD-append-add}
 use Rattle.layout.specs.Sizes.{registerWords, nodeWords}
 use Rattle.layout.specs.Words.{tab, part}
 use Rattle.layout.proofs.Tab.{tab-full, tab-is}
-use Rattle.flat.specs.Flat.{registerWord, journeyWord, nodeWord, secretWord, answerWord, answerWords, workSize, rowOf}
+use Rattle.flat.specs.Flat.{registerWord, journeyWord, nodeWord, secretWord, answerWord, answerWords, workSize, PartsLong, rowOf}
 
 -- from place p on, l is x
 abbrev pub From : ℕ → List ℕ → List ℕ → Type 0
@@ -29,16 +29,7 @@ part-here p n x rest l h from =
     tab-is (λ k. getD l (p + k) 0) x n h
     (λ i b. let e : p + i - p ≡ i = omega arith in here p n x rest l h from (p + i) (omega arith) (omega arith) ∙ ap (λ (k : ℕ). getD x k 0) e)
 
--- parts as long as a work's
-pub record Long (head register journey node secret answer : List ℕ) : Type 0 where
-  pub head-long : length head ≡ registerWord
-  pub register-long : length register ≡ registerWords
-  pub journey-long : length journey ≡ registerWords
-  pub node-long : length node ≡ nodeWords
-  pub secret-long : length secret ≡ registerWords
-  pub answer-long : length answer ≡ answerWords
-
-module _ (head register journey node secret answer : List ℕ) (long : Long head register journey node secret answer) where
+module _ (head register journey node secret answer : List ℕ) (long : PartsLong head register journey node secret answer) where
   abbrev row : List ℕ
   row = rowOf head register journey node secret answer
 

@@ -87,6 +87,15 @@ headOf w =
 unfoldable pub rowOf : List ℕ → List ℕ → List ℕ → List ℕ → List ℕ → List ℕ → List ℕ
 rowOf head register journey node secret answer = head ++ (register ++ (journey ++ (node ++ (secret ++ answer))))
 
+-- parts as long as a work's
+pub record PartsLong (head register journey node secret answer : List ℕ) : Type 0 where
+  pub head-long : length head ≡ registerWord
+  pub register-long : length register ≡ registerWords
+  pub journey-long : length journey ≡ registerWords
+  pub node-long : length node ≡ nodeWords
+  pub secret-long : length secret ≡ registerWords
+  pub answer-long : length answer ≡ answerWords
+
 unfoldable pub workWords : Work → List ℕ
 workWords w = rowOf (headOf w) (w .register) (w .journey) (w .node) (w .secret) (wordsAt answerWords (w .answer) 0)
 

@@ -5,14 +5,14 @@
 // bytes to a word, the first lowest.
 ghost use mathlib.Core.Path.{_≡_};
 ghost use mathlib.Core.List.{[], _∷_};
-ghost use Prim.Native.Nat.{_<_};
 ghost use lib.ListN.{length, getD};
 ghost use Rattle.layout.specs.Words.{wordsAt};
 ghost use Rattle.work.specs.Parts.{standing};
-ghost use Rattle.flat.specs.Flat.{AllBytes, workSize, answerWords, lowOf, highOf, headOf, rowOf, workWords, workOf};
+ghost use Rattle.flat.specs.Flat.{AllBytes, PartsLong, workSize, answerWords, lowOf, highOf, headOf, rowOf, workWords, workOf};
 use layout::ANSWER_MAX;
 use layout::NODE_WORDS;
 use layout::REGISTER_WORDS;
+use slices::image::word;
 use slices::little_endian::read32;
 use table::Kind;
 use work::Work;
@@ -109,47 +109,48 @@ fn packed(answer: &[u8]) -> [u32; ANSWER_WORDS]
 }
 
 // Word k of the parts one after another.
-fn row_word(
-    head: [u32; REGISTER_IN],
-    register: [u32; REGISTER_WORDS],
-    journey: [u32; REGISTER_WORDS],
-    node: [u32; NODE_WORDS],
-    secret: [u32; REGISTER_WORDS],
-    answer: [u32; ANSWER_WORDS],
+fn row_word<'a>(
+    head: &'a [u32],
+    register: &'a [u32],
+    journey: &'a [u32],
+    node: &'a [u32],
+    secret: &'a [u32],
+    answer: &'a [u32],
     k: usize,
 ) -> u32
-    requires { ⌜ k < workSize ⌝ }
-    ensures { λ r. ⌜ r ≡ getD (rowOf head register journey node secret answer) k 0 ⌝ }
+    requires { ⌜ PartsLong (now head) (now register) (now journey) (now node) (now secret) (now answer) ⌝ }
+    ensures { λ r. ⌜ r ≡ getD (rowOf (now (head .entry)) (now (register .entry)) (now (journey .entry)) (now (node .entry)) (now (secret .entry)) (now (answer .entry))) k 0 ⌝ }
 {
     if k < REGISTER_IN {
-        return head[k];
+        return word(head, k);
     }
     if k < JOURNEY_IN {
-        return register[k - REGISTER_IN];
+        return word(register, k - REGISTER_IN);
     }
     if k < NODE_IN {
-        return journey[k - JOURNEY_IN];
+        return word(journey, k - JOURNEY_IN);
     }
     if k < SECRET_IN {
-        return node[k - NODE_IN];
+        return word(node, k - NODE_IN);
     }
     if k < ANSWER_IN {
-        return secret[k - SECRET_IN];
+        return word(secret, k - SECRET_IN);
     }
-    answer[k - ANSWER_IN]
+    word(answer, k - ANSWER_IN)
 }
 
-fn write_row(
-    head: [u32; REGISTER_IN],
-    register: [u32; REGISTER_WORDS],
-    journey: [u32; REGISTER_WORDS],
-    node: [u32; NODE_WORDS],
-    secret: [u32; REGISTER_WORDS],
-    answer: [u32; ANSWER_WORDS],
+fn write_row<'a>(
+    head: &'a [u32],
+    register: &'a [u32],
+    journey: &'a [u32],
+    node: &'a [u32],
+    secret: &'a [u32],
+    answer: &'a [u32],
     out: &mut [u32],
 )
     requires { ⌜ length (now out) ≡ workSize ⌝ }
-    ensures { λ r. ⌜ now (out .exit) ≡ rowOf head register journey node secret answer ⌝ }
+    requires { ⌜ PartsLong (now head) (now register) (now journey) (now node) (now secret) (now answer) ⌝ }
+    ensures { λ r. ⌜ now (out .exit) ≡ rowOf (now (head .entry)) (now (register .entry)) (now (journey .entry)) (now (node .entry)) (now (secret .entry)) (now (answer .entry)) ⌝ }
 {
     let mut k = 0;
     while k < WORK_WORDS {
@@ -165,11 +166,11 @@ pub(crate) fn write_work(w: Work, out: &mut [u32])
 {
     let kind = w.kind;
     let head = head_of(kind, w.position, w.answer_len);
-    let bytes = w.answer;
-    let answer = packed(&bytes);
     let register = w.register;
     let journey = w.journey;
     let node = w.node;
     let secret = w.secret;
-    write_row(head, register, journey, node, secret, answer, out);
+    let bytes = w.answer;
+    let answer = packed(&bytes);
+    write_row(&head, &register, &journey, &node, &secret, &answer, out);
 }

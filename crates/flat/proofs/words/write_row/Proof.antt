@@ -6,7 +6,7 @@ use mathlib.Core.Path.{_≡_}
 use lib.ListN.{length, take, getD, length-set}
 use Rattle.layout.specs.Words.{tab}
 use Rattle.layout.proofs.Tab.{tab-none, tab-more}
-use Rattle.flat.proofs.Rows.{Long, row-filled}
+use Rattle.flat.proofs.Rows.{row-filled}
 use Rattle.flat.specs.Flat.{workSize, rowOf}
 use Rattle.flat.proofs.words.write_row.Statement.{statement}
 use Rattle.flat.proofs.words.write_row.Tie as tie
@@ -43,24 +43,11 @@ loop-again c = let l = c .before .before .loop in
 same-length : tie.Need-same-length Inv-loop μ-loop
 same-length c = search needs
 
--- by the types of the parts
-long : (g : tie.Start Inv-loop μ-loop)
-    → Long (g .args .head) (g .args .register) (g .args .journey) (g .args .node) (g .args .secret) (g .args .answer)
-long g =
-    record {
-      head-long = search needs;
-      register-long = search needs;
-      journey-long = search needs;
-      node-long = search needs;
-      secret-long = search needs;
-      answer-long = search needs;
-    }
-
 returns : tie.Need-returns Inv-loop μ-loop
 returns c =
     let l = c .before .loop in
     let e : l .k ≡ workSize = omega arith in
-    row-filled _ _ _ _ _ _ (long (c .before .before .before)) (l .out) (l .inv .1) (rw e at (l .inv .2))
+    row-filled _ _ _ _ _ _ (c .before .before .before .before .before .before .before .before .before .pre .1) (l .out) (l .inv .1) (rw e at (l .inv .2))
 
 pub write-row-spec : {M : Type 1} → statement M
 write-row-spec =

@@ -19,6 +19,24 @@ slice-aggregate-packed c = search needs
 packed-requires : tie.Need-packed-requires
 packed-requires c κs = search needs
 
+slice-aggregate-write-row : tie.Need-slice-aggregate-write-row
+slice-aggregate-write-row c = search needs
+
+slice-aggregate-write-row-2 : tie.Need-slice-aggregate-write-row-2
+slice-aggregate-write-row-2 c = search needs
+
+slice-aggregate-write-row-3 : tie.Need-slice-aggregate-write-row-3
+slice-aggregate-write-row-3 c = search needs
+
+slice-aggregate-write-row-4 : tie.Need-slice-aggregate-write-row-4
+slice-aggregate-write-row-4 c = search needs
+
+slice-aggregate-write-row-5 : tie.Need-slice-aggregate-write-row-5
+slice-aggregate-write-row-5 c = search needs
+
+slice-aggregate-write-row-6 : tie.Need-slice-aggregate-write-row-6
+slice-aggregate-write-row-6 c = search needs
+
 write-row-requires : tie.Need-write-row-requires
 write-row-requires c κs = search needs
 
@@ -41,13 +59,13 @@ returns : tie.Need-returns
 unfolding workWords headOf
 returns c =
     let c2 = c .before .before in
-    let c8 = c2 .before .before .before .before .before .before in
-    let c11 = c8 .before .before .before in
-    let c13 = c11 .before .before in
-    let w = c13 .args .w in
-    let e = c2 .write-row .ensures
-    ∙ ap₂ (λ (x y : List ℕ). rowOf x (w .register) (w .journey) (w .node) (w .secret) y) (c11 .head-of .ensures) (c8 .packed .ensures .0) in
-    (e, ap workOf e ∙ work-back w (typed c13 (c8 .packed .ensures .1)))
+    let c10 = c2 .before .before .before .before .before .before .before .before in
+    let c17 = c10 .before .before .before .before .before .before .before in
+    let c19 = c17 .before .before in
+    let w = c19 .args .w in
+    let e = c2 .write-row .ensures ∙ ap₂ (λ (x y : List ℕ). rowOf x (w .register) (w .journey) (w .node) (w .secret) y) (c17 .head-of .ensures)
+    (c10 .packed .ensures .0) in
+    (e, ap workOf e ∙ work-back w (typed (c19) (c10 .packed .ensures .1)))
 
 pub write-work-spec : {M : Type 1} → statement M
 write-work-spec =
@@ -56,6 +74,12 @@ write-work-spec =
     head-of-requires
     slice-aggregate-packed
     packed-requires
+    slice-aggregate-write-row
+    slice-aggregate-write-row-2
+    slice-aggregate-write-row-3
+    slice-aggregate-write-row-4
+    slice-aggregate-write-row-5
+    slice-aggregate-write-row-6
     write-row-requires
     same-length
     returns)
