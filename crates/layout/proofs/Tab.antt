@@ -1,12 +1,12 @@
 -- Lists made by a function of the index. Assumes nothing.
-use Prim.Native.Nat.{ℕ, zero, suc, _+_, _<_, _≤_}
+use Prim.Native.Nat.{ℕ, zero, suc, _+_, _-_, _<_, _≤_}
 use mathlib.Core.Path.{_≡_, refl, sym, ap, _∙_}
 use mathlib.Core.List.{List, [], _∷_, _++_}
 use native.Mathlib.Numerals.{add-one}
 use native.Mathlib.Omega.{arith}
 use native.Mathlib.Decide.{decLt}
-use lib.ListN.{length, getD, take, set, length-append, length-replicate, getD-replicate, List·getD-append, List·getD-eq-default}
-use lib.Seq.{take-suc-set, take-all, ext-getD, getD-at}
+use lib.ListN.{length, getD, take, drop, set, replicate, length-append, length-replicate, replicate-append-replicate, getD-replicate, List·getD-append, List·getD-eq-default}
+use lib.Seq.{take-suc-set, take-all, drop-at, ext-getD, getD-at}
 use Rattle.layout.specs.Words.{tab, zeros}
 
 pub length-zeros : (n : ℕ) → length (zeros n) ≡ n
@@ -16,6 +16,14 @@ length-zeros n = length-replicate n 0
 pub getD-zeros : (n i : ℕ) → i < n → getD (zeros n) i 0 ≡ 0
 unfolding zeros
 getD-zeros n i h = getD-replicate n i 0 0 h
+
+-- the back of a run of zeros
+pub drop-zeros : (k n : ℕ) → k ≤ n → drop k (replicate {A = ℕ} n 0) ≡ replicate (n - k) 0
+drop-zeros k n h =
+    let e : k + (n - k) ≡ n = omega arith in
+    ap (λ (i : ℕ). drop k (replicate {A = ℕ} i 0)) (sym e)
+    ∙ ap (drop k) (sym (replicate-append-replicate k (n - k) 0))
+    ∙ drop-at (replicate {A = ℕ} k 0) (replicate (n - k) 0) k (length-replicate k 0)
 
 -- past the end of a list
 pub getD-past : (l : List ℕ) (i : ℕ) → length l ≤ i → 0 ≡ getD l i 0

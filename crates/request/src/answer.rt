@@ -16,18 +16,18 @@ use opening::works::ready;
 use slices::little_endian::four;
 use table::Kind;
 
-// The status is zero, so that its bytes add nothing to the checksum.
 fn sealed(code: u32, rest: &[u8]) -> Answer
     requires { ⌜ length (now rest) + 8 ≤ answerMax ⌝ }
     ensures { λ r. ⌜ r ≡ answerIn (answerOf code (now (rest .entry))) ⌝ }
 {
-    let sum = four(message::checksum(code, rest));
+    let end = rest.len() + 8;
     let mut out = [0u8; ANSWER_MAX];
-    bytes::copy(&sum, &mut out);
     bytes::copy(rest, &mut out[8..]);
+    let sum = four(message::checksum(code, &out[4..end]));
+    bytes::copy(&sum, &mut out);
     Answer {
         bytes: out,
-        len: rest.len() + 8,
+        len: end,
     }
 }
 

@@ -11,6 +11,7 @@ use borrow.Rule.Slice.PartMut.{midOf, putMid}
 use borrow.Author.Tests.{le-ltb}
 use Rattle.layout.specs.Sizes.{answerMax}
 use Rattle.layout.specs.Words.{bytes4, zeros}
+use Rattle.layout.proofs.Tab.{drop-zeros}
 use Rattle.work.specs.declared.Work.{Work}
 use Rattle.work.specs.Entries.{finished, answerNumber, answerResult, answerBuffer}
 use Rattle.work.proofs.Shape.{shaped-answer, finished-shaped}
@@ -20,8 +21,9 @@ use Rattle.opening.specs.declared.Status.the-variants as status
 use Rattle.respond.specs.declared.Response.{Response}
 use Rattle.respond.specs.Program.{responseMax, responseOf, answerBytes, written}
 use Rattle.making.proofs.After.{SameAnswer}
-use Rattle.request.proofs.Sealing.{zs, drop-zeros}
-use Rattle.request.proofs.Sealing.{zs, drop-zeros}
+
+abbrev zs : ℕ → List ℕ
+zs n = replicate n 0
 
 -- what `with_result` hands back
 abbrev pub responseWith : ℕ → ℕ → List ℕ → Response

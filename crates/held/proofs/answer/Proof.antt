@@ -15,10 +15,10 @@ unfolding answerNumberIn answerWritten answerBufferIn
 returns c = rw (ne-eqb (length (c .before .before .before .args .work .now)) workSize (c .if1 .taken)) (refl, (refl, refl))
 
 answering-requires : tie.Need-answering-requires
-answering-requires c κs = search needs
+answering-requires c κs = tt
 
 answer-requires : tie.Need-answer-requires
-answer-requires c κs = search needs
+answer-requires c κs = tt
 
 same-length : tie.Need-same-length
 same-length c = search needs

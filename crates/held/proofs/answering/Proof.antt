@@ -1,21 +1,20 @@
 -- `answering` meets its contract: each field is read from the words. Assumes nothing.
 use Rattle.layout.specs.Words.{zeros}
 use Rattle.flat.specs.Flat.{workOf, answeringOf}
-use borrow.Author.Needs.{needs}
 use Rattle.held.proofs.answering.Statement.{statement}
 use Rattle.held.proofs.answering.Tie as tie
 
 kind-in-requires : tie.Need-kind-in-requires
-kind-in-requires c κs = search needs
+kind-in-requires c κs = tt
 
 answer-in-requires : tie.Need-answer-in-requires
-answer-in-requires c κs = search needs
+answer-in-requires c κs = tt
 
 position-in-requires : tie.Need-position-in-requires
-position-in-requires c κs = search needs
+position-in-requires c κs = tt
 
 answer-len-in-requires : tie.Need-answer-len-in-requires
-answer-len-in-requires c κs = search needs
+answer-len-in-requires c κs = tt
 
 returns : tie.Need-returns
 unfolding workOf answeringOf zeros

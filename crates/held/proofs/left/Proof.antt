@@ -5,7 +5,6 @@ use borrow.Author.Tests.{eq-eqb, ne-eqb}
 use Rattle.work.proofs.Parts.{left-standing}
 use Rattle.flat.specs.Flat.{workSize, workOf}
 use Rattle.flat.specs.Forms.{leftIn}
-use borrow.Author.Needs.{needs}
 use Rattle.held.proofs.left.Statement.{statement}
 use Rattle.held.proofs.left.Tie as tie
 
@@ -14,16 +13,16 @@ unfolding leftIn
 returns c = rw (ne-eqb (length (c .before .before .args .work .now)) workSize (c .if1 .taken))
 
 kind-in-requires : tie.Need-kind-in-requires
-kind-in-requires c κs = search needs
+kind-in-requires c κs = tt
 
 position-in-requires : tie.Need-position-in-requires
-position-in-requires c κs = search needs
+position-in-requires c κs = tt
 
 answer-len-in-requires : tie.Need-answer-len-in-requires
-answer-len-in-requires c κs = search needs
+answer-len-in-requires c κs = tt
 
 left-requires : tie.Need-left-requires
-left-requires c κs = search needs
+left-requires c κs = tt
 
 returns-2 : tie.Need-returns-2
 unfolding leftIn

@@ -5,7 +5,7 @@ use Rattle.held.proofs.move_on.Statement.{statement}
 use Rattle.held.proofs.move_on.Tie as tie
 
 position-in-requires : tie.Need-position-in-requires
-position-in-requires c κs = search needs
+position-in-requires c κs = tt
 
 add-position : tie.Need-add-position
 add-position c = search needs

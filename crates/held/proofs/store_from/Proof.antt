@@ -6,13 +6,13 @@ use Rattle.held.proofs.store_from.Statement.{statement}
 use Rattle.held.proofs.store_from.Tie as tie
 
 kind-in-requires : tie.Need-kind-in-requires
-kind-in-requires c κs = search needs
+kind-in-requires c κs = tt
 
 position-in-requires : tie.Need-position-in-requires
-position-in-requires c κs = search needs
+position-in-requires c κs = tt
 
 answer-len-in-requires : tie.Need-answer-len-in-requires
-answer-len-in-requires c κs = search needs
+answer-len-in-requires c κs = tt
 
 sub-store : tie.Need-sub-store
 sub-store c = search needs
@@ -51,7 +51,7 @@ part-store-end-4 : tie.Need-part-store-end-4
 part-store-end-4 c = search needs
 
 store-requires : tie.Need-store-requires
-store-requires c κs = search needs
+store-requires c κs = tt
 
 same-length : tie.Need-same-length
 same-length c = search needs

@@ -7,7 +7,7 @@ use Rattle.mailbox.proofs.answer.Statement.{statement}
 use Rattle.mailbox.proofs.answer.Tie as tie
 
 respond-requires : tie.Need-respond-requires
-respond-requires c κs = search needs
+respond-requires c κs = tt
 
 array-share-prefix-bytes : tie.Need-array-share-prefix-bytes
 array-share-prefix-bytes c = response-within (c .before .respond .result) _ (c .before .respond .ensures)
@@ -17,13 +17,13 @@ slice-aggregate-write-all c = let r = c .before .before .respond .result in
     sym (length-take-le (r .len) (r .bytes) (response-within r _ (c .before .before .respond .ensures)))
 
 write-all-requires : tie.Need-write-all-requires
-write-all-requires c κs = search needs
+write-all-requires c κs = tt
 
 slice-aggregate-complain : tie.Need-slice-aggregate-complain
 slice-aggregate-complain c = search needs
 
 complain-requires : tie.Need-complain-requires
-complain-requires c κs = search needs
+complain-requires c κs = tt
 
 returns : tie.Need-returns
 returns c = search needs

@@ -27,7 +27,7 @@ part-read-end : tie.Need-part-read-end Inv-loop μ-loop
 part-read-end c = search needs
 
 read-requires : tie.Need-read-requires Inv-loop μ-loop
-read-requires c κs = search needs
+read-requires c κs = tt
 
 same-length : tie.Need-same-length Inv-loop μ-loop
 same-length c = search needs
@@ -45,7 +45,7 @@ part-count-end : tie.Need-part-count-end Inv-loop μ-loop
 part-count-end c = search needs
 
 count-requires : tie.Need-count-requires Inv-loop μ-loop
-count-requires c κs = search needs
+count-requires c κs = tt
 
 add-count : tie.Need-add-count Inv-loop μ-loop
 add-count c = search needs

@@ -5,7 +5,6 @@ use lib.Seq.{length-take-le, take-all}
 use Prim.Native.Nat.{ℕ}
 use mathlib.Core.List.{List}
 use Rattle.respond.specs.Program.{inputMax, outputOf, programOutput, responseOf}
-use borrow.Author.Needs.{needs}
 use Rattle.respond.proofs.respond.Statement.{statement}
 use Rattle.respond.proofs.respond.Tie as tie
 
@@ -13,14 +12,14 @@ slice-aggregate-respond-to : tie.Need-slice-aggregate-respond-to
 slice-aggregate-respond-to c = sym (length-take-le _ (c .before .before .before .args .input .now) (omega arith))
 
 respond-to-requires : tie.Need-respond-to-requires
-respond-to-requires c κs = search needs
+respond-to-requires c κs = tt
 
 returns : tie.Need-returns
 unfolding programOutput
 returns c = c .respond-to .ensures
 
 respond-to-requires-2 : tie.Need-respond-to-requires-2
-respond-to-requires-2 c κs = search needs
+respond-to-requires-2 c κs = tt
 
 returns-2 : tie.Need-returns-2
 unfolding programOutput

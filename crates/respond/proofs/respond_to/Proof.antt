@@ -14,13 +14,13 @@ use Rattle.respond.proofs.respond_to.Statement.{statement}
 use Rattle.respond.proofs.respond_to.Tie as tie
 
 cold-image-requires : tie.Need-cold-image-requires
-cold-image-requires c κs = search needs
+cold-image-requires c κs = tt
 
 slice-aggregate-open : tie.Need-slice-aggregate-open
 slice-aggregate-open c = search needs
 
 open-requires : tie.Need-open-requires
-open-requires c κs = search needs
+open-requires c κs = tt
 
 enum-told : tie.Need-enum-told
 enum-told c = search needs
@@ -29,7 +29,7 @@ enum-told-2 : tie.Need-enum-told-2
 enum-told-2 c = search needs
 
 number-of-requires : tie.Need-number-of-requires
-number-of-requires c κs = search needs
+number-of-requires c κs = tt
 
 with-result-requires : tie.Need-with-result-requires
 with-result-requires c κs = search needs

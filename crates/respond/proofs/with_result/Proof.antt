@@ -9,7 +9,7 @@ use Rattle.respond.proofs.with_result.Statement.{statement}
 use Rattle.respond.proofs.with_result.Tie as tie
 
 four-requires : tie.Need-four-requires
-four-requires c κs = search needs
+four-requires c κs = tt
 
 slice-aggregate-copy : tie.Need-slice-aggregate-copy
 slice-aggregate-copy c = search needs

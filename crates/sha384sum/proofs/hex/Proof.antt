@@ -28,7 +28,7 @@ array-read-digit : tie.Need-array-read-digit Inv-loop μ-loop
 array-read-digit c = search needs
 
 digit-requires : tie.Need-digit-requires Inv-loop μ-loop
-digit-requires c κs = search needs
+digit-requires c κs = tt
 
 mul-out : tie.Need-mul-out Inv-loop μ-loop
 mul-out c = search needs
@@ -40,7 +40,7 @@ array-read-digit-2 : tie.Need-array-read-digit-2 Inv-loop μ-loop
 array-read-digit-2 c = search needs
 
 digit-requires-2 : tie.Need-digit-requires-2 Inv-loop μ-loop
-digit-requires-2 c κs = search needs
+digit-requires-2 c κs = tt
 
 mul-out-2 : tie.Need-mul-out-2 Inv-loop μ-loop
 mul-out-2 c = search needs

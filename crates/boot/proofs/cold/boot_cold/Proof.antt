@@ -6,7 +6,7 @@ use Rattle.boot.proofs.cold.boot_cold.Statement.{statement}
 use Rattle.boot.proofs.cold.boot_cold.Tie as tie
 
 open-cold-boot-requires : tie.Need-open-cold-boot-requires
-open-cold-boot-requires c κs = search needs
+open-cold-boot-requires c κs = tt
 
 enum-told : tie.Need-enum-told
 enum-told c = search needs
@@ -15,7 +15,7 @@ enum-told-2 : tie.Need-enum-told-2
 enum-told-2 c = search needs
 
 boot-number-requires : tie.Need-boot-number-requires
-boot-number-requires c κs = search needs
+boot-number-requires c κs = tt
 
 same-length : tie.Need-same-length
 same-length c = search needs
@@ -27,7 +27,7 @@ returns c =
     (rw (c .boot-number .ensures, c .before .enum-told2 .given .1), refl)
 
 run-all-requires : tie.Need-run-all-requires
-run-all-requires c κs = search needs
+run-all-requires c κs = tt
 
 same-length-2 : tie.Need-same-length-2
 same-length-2 c = search needs

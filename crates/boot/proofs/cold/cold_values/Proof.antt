@@ -9,28 +9,28 @@ use Rattle.boot.proofs.cold.cold_values.Statement.{statement}
 use Rattle.boot.proofs.cold.cold_values.Tie as tie
 
 bytes-of-requires : tie.Need-bytes-of-requires
-bytes-of-requires c κs = search needs
+bytes-of-requires c κs = tt
 
 extend-requires : tie.Need-extend-requires
-extend-requires c κs = search needs
+extend-requires c κs = tt
 
 extend-requires-2 : tie.Need-extend-requires-2
-extend-requires-2 c κs = search needs
+extend-requires-2 c κs = tt
 
 slice-aggregate-pack : tie.Need-slice-aggregate-pack
 slice-aggregate-pack c = search needs
 
 pack-requires : tie.Need-pack-requires
-pack-requires c κs = search needs
+pack-requires c κs = tt
 
 cast-node-row : tie.Need-cast-node-row
 cast-node-row c = search needs
 
 node-row-requires : tie.Need-node-row-requires
-node-row-requires c κs = search needs
+node-row-requires c κs = tt
 
 pack-requires-2 : tie.Need-pack-requires-2
-pack-requires-2 c κs = search needs
+pack-requires-2 c κs = tt
 
 returns : tie.Need-returns
 unfolding zeros

@@ -8,12 +8,11 @@ use Rattle.opening.specs.Works.{workAt}
 use Rattle.opening.specs.Openings.{openColdBoot}
 use Rattle.opening.proofs.Told.{booted-told}
 use Rattle.boot.proofs.Sizes.{digest-length}
-use borrow.Author.Needs.{needs}
 use Rattle.boot.proofs.cold.open_cold_boot.Statement.{statement}
 use Rattle.boot.proofs.cold.open_cold_boot.Tie as tie
 
 boot-refused-requires : tie.Need-boot-refused-requires
-boot-refused-requires c κs = search needs
+boot-refused-requires c κs = tt
 
 returns : tie.Need-returns
 unfolding openColdBoot
@@ -23,10 +22,10 @@ returns c =
     (rw (ne-eqb (length (a .image .now)) imageWords (c .before .if1 .taken)) (c .boot-refused .ensures))
 
 inputs-ok-requires : tie.Need-inputs-ok-requires
-inputs-ok-requires c κs = search needs
+inputs-ok-requires c κs = tt
 
 boot-refused-requires-2 : tie.Need-boot-refused-requires-2
-boot-refused-requires-2 c κs = search needs
+boot-refused-requires-2 c κs = tt
 
 returns-2 : tie.Need-returns-2
 unfolding openColdBoot
@@ -42,7 +41,7 @@ cold-values-requires : tie.Need-cold-values-requires
 cold-values-requires c κs = digest-length _ (told-yes (c .before .inputs-ok .ensures) (c .if2 .left))
 
 ready-with-requires : tie.Need-ready-with-requires
-ready-with-requires c κs = search needs
+ready-with-requires c κs = tt
 
 returns-3 : tie.Need-returns-3
 unfolding openColdBoot workAt

@@ -1,13 +1,12 @@
 -- The callees, put together.
-use borrow.Author.Needs.{needs}
 use Rattle.boot.proofs.ready.ready_bare.Statement.{statement}
 use Rattle.boot.proofs.ready.ready_bare.Tie as tie
 
 bare-work-requires : tie.Need-bare-work-requires
-bare-work-requires c κs = search needs
+bare-work-requires c κs = tt
 
 boot-ready-requires : tie.Need-boot-ready-requires
-boot-ready-requires c κs = search needs
+boot-ready-requires c κs = tt
 
 returns : tie.Need-returns
 returns c = rw (c .boot-ready .ensures, c .before .bare-work .ensures)

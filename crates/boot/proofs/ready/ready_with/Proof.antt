@@ -1,18 +1,17 @@
 -- The callees, put together.
 use Rattle.layout.specs.Words.{zeros}
 use Rattle.making.specs.Made.{workWith}
-use borrow.Author.Needs.{needs}
 use Rattle.boot.proofs.ready.ready_with.Statement.{statement}
 use Rattle.boot.proofs.ready.ready_with.Tie as tie
 
 no-answer-requires : tie.Need-no-answer-requires
-no-answer-requires c κs = search needs
+no-answer-requires c κs = tt
 
 new-work-requires : tie.Need-new-work-requires
-new-work-requires c κs = search needs
+new-work-requires c κs = tt
 
 boot-ready-requires : tie.Need-boot-ready-requires
-boot-ready-requires c κs = search needs
+boot-ready-requires c κs = tt
 
 returns : tie.Need-returns
 unfolding workWith zeros

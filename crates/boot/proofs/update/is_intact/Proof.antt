@@ -26,7 +26,7 @@ returns-2 c =
     )
 
 well-formed-requires : tie.Need-well-formed-requires
-well-formed-requires c κs = search needs
+well-formed-requires c κs = tt
 
 returns-3 : tie.Need-returns-3
 unfolding intact
@@ -38,7 +38,7 @@ returns-3 c =
     )
 
 root-index-requires : tie.Need-root-index-requires
-root-index-requires c κs = search needs
+root-index-requires c κs = tt
 
 root-matches-requires : tie.Need-root-matches-requires
 root-matches-requires c κs = search needs

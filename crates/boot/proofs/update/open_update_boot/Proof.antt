@@ -13,7 +13,7 @@ use Rattle.boot.proofs.update.open_update_boot.Statement.{statement}
 use Rattle.boot.proofs.update.open_update_boot.Tie as tie
 
 boot-refused-requires : tie.Need-boot-refused-requires
-boot-refused-requires c κs = search needs
+boot-refused-requires c κs = tt
 
 returns : tie.Need-returns
 unfolding openUpdateBoot
@@ -23,10 +23,10 @@ returns c =
     (rw (ne-eqb (length (a .image .now)) imageWords (c .before .if1 .taken)) (c .boot-refused .ensures))
 
 inputs-ok-requires : tie.Need-inputs-ok-requires
-inputs-ok-requires c κs = search needs
+inputs-ok-requires c κs = tt
 
 boot-refused-requires-2 : tie.Need-boot-refused-requires-2
-boot-refused-requires-2 c κs = search needs
+boot-refused-requires-2 c κs = tt
 
 returns-2 : tie.Need-returns-2
 unfolding openUpdateBoot
@@ -42,7 +42,7 @@ is-intact-requires : tie.Need-is-intact-requires
 is-intact-requires c κs = search needs
 
 ready-bare-requires : tie.Need-ready-bare-requires
-ready-bare-requires c κs = search needs
+ready-bare-requires c κs = tt
 
 returns-3 : tie.Need-returns-3
 unfolding openUpdateBoot workAt
@@ -56,7 +56,7 @@ returns-3 c =
     ) (c .ready-bare .ensures))
 
 ready-bare-requires-2 : tie.Need-ready-bare-requires-2
-ready-bare-requires-2 c κs = search needs
+ready-bare-requires-2 c κs = tt
 
 returns-4 : tie.Need-returns-4
 unfolding openUpdateBoot workAt

@@ -13,13 +13,13 @@ add-bytes-in-2 : tie.Need-add-bytes-in-2
 add-bytes-in-2 c = search needs
 
 bytes-in-requires : tie.Need-bytes-in-requires
-bytes-in-requires c κs = search needs
+bytes-in-requires c κs = tt
 
 extend-requires : tie.Need-extend-requires
-extend-requires c κs = search needs
+extend-requires c κs = tt
 
 measurements-row-requires : tie.Need-measurements-row-requires
-measurements-row-requires c κs = search needs
+measurements-row-requires c κs = tt
 
 returns : tie.Need-returns
 returns c = rw (c .measurements-row .ensures, c .before .extend .ensures, c .before .before .bytes-in .ensures)

@@ -10,34 +10,34 @@ use Rattle.boot.proofs.update.update_values.Statement.{statement}
 use Rattle.boot.proofs.update.update_values.Tie as tie
 
 bytes-of-requires : tie.Need-bytes-of-requires
-bytes-of-requires c κs = search needs
+bytes-of-requires c κs = tt
 
 extend-requires : tie.Need-extend-requires
-extend-requires c κs = search needs
+extend-requires c κs = tt
 
 bytes-in-requires : tie.Need-bytes-in-requires
-bytes-in-requires c κs = search needs
+bytes-in-requires c κs = tt
 
 extend-requires-2 : tie.Need-extend-requires-2
-extend-requires-2 c κs = search needs
+extend-requires-2 c κs = tt
 
 slice-aggregate-pack : tie.Need-slice-aggregate-pack
 slice-aggregate-pack c = search needs
 
 pack-requires : tie.Need-pack-requires
-pack-requires c κs = search needs
+pack-requires c κs = tt
 
 slice-aggregate-pack-2 : tie.Need-slice-aggregate-pack-2
 slice-aggregate-pack-2 c = search needs
 
 pack-requires-2 : tie.Need-pack-requires-2
-pack-requires-2 c κs = search needs
+pack-requires-2 c κs = tt
 
 root-row-requires : tie.Need-root-row-requires
 root-row-requires c κs = search needs
 
 pack-requires-3 : tie.Need-pack-requires-3
-pack-requires-3 c κs = search needs
+pack-requires-3 c κs = tt
 
 returns : tie.Need-returns
 unfolding registerIn zeros

@@ -1,17 +1,16 @@
 -- The callees, put together.
 use Rattle.opening.specs.Works.{workAt}
-use borrow.Author.Needs.{needs}
 use Rattle.boot.proofs.update.updated.Statement.{statement}
 use Rattle.boot.proofs.update.updated.Tie as tie
 
 root-index-requires : tie.Need-root-index-requires
-root-index-requires c κs = search needs
+root-index-requires c κs = tt
 
 update-values-requires : tie.Need-update-values-requires
 update-values-requires c κs = (c .before .before .before .before .pre, c .root-index .ensures .1, c .root-index .ensures .0)
 
 ready-with-requires : tie.Need-ready-with-requires
-ready-with-requires c κs = search needs
+ready-with-requires c κs = tt
 
 returns : tie.Need-returns
 unfolding workAt

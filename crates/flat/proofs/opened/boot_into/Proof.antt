@@ -15,7 +15,7 @@ enum-told : tie.Need-enum-told
 enum-told c = search needs
 
 boot-number-requires : tie.Need-boot-number-requires
-boot-number-requires c κs = search needs
+boot-number-requires c κs = tt
 
 returns-2 : tie.Need-returns-2
 returns-2 c =
@@ -27,7 +27,7 @@ write-work-requires : tie.Need-write-work-requires
 write-work-requires c κs = search needs
 
 outcome-number-requires : tie.Need-outcome-number-requires
-outcome-number-requires c κs = search needs
+outcome-number-requires c κs = tt
 
 same-length : tie.Need-same-length
 same-length c = search needs

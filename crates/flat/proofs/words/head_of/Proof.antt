@@ -9,31 +9,31 @@ enum-told : tie.Need-enum-told
 enum-told c = search needs
 
 head-requires : tie.Need-head-requires
-head-requires c κs = search needs
+head-requires c κs = tt
 
 enum-told-2 : tie.Need-enum-told-2
 enum-told-2 c = search needs
 
 head-requires-2 : tie.Need-head-requires-2
-head-requires-2 c κs = search needs
+head-requires-2 c κs = tt
 
 enum-known-kind : tie.Need-enum-known-kind
 enum-known-kind c = search needs
 
 head-requires-3 : tie.Need-head-requires-3
-head-requires-3 c κs = search needs
+head-requires-3 c κs = tt
 
 enum-known-kind-2 : tie.Need-enum-known-kind-2
 enum-known-kind-2 c = search needs
 
 head-requires-4 : tie.Need-head-requires-4
-head-requires-4 c κs = search needs
+head-requires-4 c κs = tt
 
 enum-told-3 : tie.Need-enum-told-3
 enum-told-3 c = search needs
 
 head-requires-5 : tie.Need-head-requires-5
-head-requires-5 c κs = search needs
+head-requires-5 c κs = tt
 
 returns : tie.Need-returns
 unfolding headOf kindNumber firstIndex secondIndex

@@ -23,7 +23,7 @@ mul-read32 : tie.Need-mul-read32 Inv-loop μ-loop
 mul-read32 c = search needs
 
 read32-requires : tie.Need-read32-requires Inv-loop μ-loop
-read32-requires c κs = search needs
+read32-requires c κs = tt
 
 mul-out : tie.Need-mul-out Inv-loop μ-loop
 mul-out c = search needs

@@ -11,13 +11,13 @@ use Rattle.flat.proofs.words.write_work.Statement.{statement}
 use Rattle.flat.proofs.words.write_work.Tie as tie
 
 head-of-requires : tie.Need-head-of-requires
-head-of-requires c κs = search needs
+head-of-requires c κs = tt
 
 slice-aggregate-packed : tie.Need-slice-aggregate-packed
 slice-aggregate-packed c = search needs
 
 packed-requires : tie.Need-packed-requires
-packed-requires c κs = search needs
+packed-requires c κs = tt
 
 slice-aggregate-write-row : tie.Need-slice-aggregate-write-row
 slice-aggregate-write-row c = search needs

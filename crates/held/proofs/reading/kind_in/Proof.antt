@@ -8,7 +8,7 @@ use Rattle.held.proofs.reading.long_in.Reads as long-in-reads
 use Rattle.slices.proofs.image.word.Reads as word-reads
 
 word-requires : tie.Need-word-requires
-word-requires c κs = search needs
+word-requires c κs = tt
 
 long-in-requires : tie.Need-long-in-requires
 long-in-requires c κs = search needs
@@ -17,7 +17,7 @@ long-in-requires-2 : tie.Need-long-in-requires-2
 long-in-requires-2 c κs = search needs
 
 kind-of-requires : tie.Need-kind-of-requires
-kind-of-requires c κs = search needs
+kind-of-requires c κs = tt
 
 returns : tie.Need-returns
 unfolding workOf

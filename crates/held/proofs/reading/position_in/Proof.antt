@@ -8,13 +8,13 @@ use Rattle.held.proofs.reading.position_of.Reads as position-of-reads
 use Rattle.slices.proofs.image.word.Reads as word-reads
 
 word-requires : tie.Need-word-requires
-word-requires c κs = search needs
+word-requires c κs = tt
 
 long-in-requires : tie.Need-long-in-requires
 long-in-requires c κs = search needs
 
 position-of-requires : tie.Need-position-of-requires
-position-of-requires c κs = search needs
+position-of-requires c κs = tt
 
 returns : tie.Need-returns
 unfolding workOf

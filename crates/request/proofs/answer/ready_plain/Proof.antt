@@ -4,7 +4,7 @@ use Rattle.request.proofs.answer.ready_plain.Statement.{statement}
 use Rattle.request.proofs.answer.ready_plain.Tie as tie
 
 no-values-requires : tie.Need-no-values-requires
-no-values-requires c κs = search needs
+no-values-requires c κs = tt
 
 ready-with-requires : tie.Need-ready-with-requires
 ready-with-requires c κs = search needs

@@ -8,10 +8,10 @@ sealed-requires : tie.Need-sealed-requires
 sealed-requires c κs = search needs
 
 new-work-requires : tie.Need-new-work-requires
-new-work-requires c κs = search needs
+new-work-requires c κs = tt
 
 ready-requires : tie.Need-ready-requires
-ready-requires c κs = search needs
+ready-requires c κs = tt
 
 returns : tie.Need-returns
 unfolding workWith

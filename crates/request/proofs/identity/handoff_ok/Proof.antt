@@ -3,15 +3,14 @@ use mathlib.Core.Path.{_∙_}
 use borrow.Author.Tests.{eq-eqb, ne-eqb}
 use Rattle.layout.proofs.Cases.{cases, told}
 use Rattle.opening.specs.Rules.{handoffOk}
-use borrow.Author.Needs.{needs}
 use Rattle.request.proofs.identity.handoff_ok.Statement.{statement}
 use Rattle.request.proofs.identity.handoff_ok.Tie as tie
 
 read32-requires : tie.Need-read32-requires
-read32-requires c κs = search needs
+read32-requires c κs = tt
 
 read16-requires : tie.Need-read16-requires
-read16-requires c κs = search needs
+read16-requires c κs = tt
 
 returns : tie.Need-returns
 unfolding handoffOk

@@ -21,7 +21,7 @@ enum-known-status : tie.Need-enum-known-status
 enum-known-status c = search needs
 
 refused-requires : tie.Need-refused-requires
-refused-requires c κs = search needs
+refused-requires c κs = tt
 
 returns : tie.Need-returns
 returns c =
@@ -34,7 +34,7 @@ enum-told : tie.Need-enum-told
 enum-told c = search needs
 
 handoff-ok-requires : tie.Need-handoff-ok-requires
-handoff-ok-requires c κs = search needs
+handoff-ok-requires c κs = tt
 
 sub-ready-plain : tie.Need-sub-ready-plain
 sub-ready-plain c = search needs
@@ -63,7 +63,7 @@ returns-2 c =
     rw (screened, told (c .before .before .before .handoff-ok .ensures) (c .before .before .if1 .taken)) (c .ready-plain .ensures)
 
 refused-requires-2 : tie.Need-refused-requires-2
-refused-requires-2 c κs = search needs
+refused-requires-2 c κs = tt
 
 returns-3 : tie.Need-returns-3
 unfolding screenedOpened

@@ -14,7 +14,7 @@ use Rattle.request.proofs.open.open_request.Statement.{statement}
 use Rattle.request.proofs.open.open_request.Tie as tie
 
 refused-requires : tie.Need-refused-requires
-refused-requires c κs = search needs
+refused-requires c κs = tt
 
 returns : tie.Need-returns
 unfolding openRequest viewIn
@@ -27,7 +27,7 @@ shared-slice-read-if2 : tie.Need-shared-slice-read-if2
 shared-slice-read-if2 c = search needs
 
 refused-requires-2 : tie.Need-refused-requires-2
-refused-requires-2 c κs = search needs
+refused-requires-2 c κs = tt
 
 returns-2 : tie.Need-returns-2
 unfolding openRequest viewIn
@@ -90,7 +90,7 @@ returns-6 c =
     (c .before .before .before .before .if1 .left) (c .before .before .if2 .left) refl)))
 
 refused-requires-3 : tie.Need-refused-requires-3
-refused-requires-3 c κs = search needs
+refused-requires-3 c κs = tt
 
 returns-7 : tie.Need-returns-7
 unfolding openRequest viewIn

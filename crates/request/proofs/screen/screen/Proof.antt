@@ -20,7 +20,7 @@ unfolding screenOf
 returns c = search cases
 
 read32-requires : tie.Need-read32-requires
-read32-requires c κs = search needs
+read32-requires c κs = tt
 
 sub-checksum : tie.Need-sub-checksum
 sub-checksum c = search needs
@@ -32,7 +32,7 @@ part-checksum-end : tie.Need-part-checksum-end
 part-checksum-end c = search needs
 
 checksum-requires : tie.Need-checksum-requires
-checksum-requires c κs = search needs
+checksum-requires c κs = tt
 
 -- the slice is all bytes after the checksum field
 whole : (code : ℕ) (b : List ℕ) (s : ℕ) → s ≡ checksumOf code (take (length b - 4) (drop 4 b)) → s ≡ checksumOf code (drop 4 b)

@@ -5,13 +5,13 @@ use Rattle.request.proofs.stash.accepted.Statement.{statement}
 use Rattle.request.proofs.stash.accepted.Tie as tie
 
 holder-index-requires : tie.Need-holder-index-requires
-holder-index-requires c κs = search needs
+holder-index-requires c κs = tt
 
 stash-values-requires : tie.Need-stash-values-requires
 stash-values-requires c κs = (c .before .before .before .pre .0, c .holder-index .ensures .1, c .holder-index .ensures .0)
 
 four-requires : tie.Need-four-requires
-four-requires c κs = search needs
+four-requires c κs = tt
 
 slice-aggregate-ready-with : tie.Need-slice-aggregate-ready-with
 slice-aggregate-ready-with c = search needs

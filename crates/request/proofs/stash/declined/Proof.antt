@@ -4,7 +4,7 @@ use Rattle.request.proofs.stash.declined.Statement.{statement}
 use Rattle.request.proofs.stash.declined.Tie as tie
 
 four-requires : tie.Need-four-requires
-four-requires c κs = search needs
+four-requires c κs = tt
 
 slice-aggregate-ready-plain : tie.Need-slice-aggregate-ready-plain
 slice-aggregate-ready-plain c = search needs

@@ -5,16 +5,16 @@ use Rattle.request.proofs.stash.extended_register.Statement.{statement}
 use Rattle.request.proofs.stash.extended_register.Tie as tie
 
 bytes-in-requires : tie.Need-bytes-in-requires
-bytes-in-requires c κs = search needs
+bytes-in-requires c κs = tt
 
 extend-requires : tie.Need-extend-requires
-extend-requires c κs = search needs
+extend-requires c κs = tt
 
 slice-aggregate-pack : tie.Need-slice-aggregate-pack
 slice-aggregate-pack c = search needs
 
 pack-requires : tie.Need-pack-requires
-pack-requires c κs = search needs
+pack-requires c κs = tt
 
 returns : tie.Need-returns
 unfolding registerIn

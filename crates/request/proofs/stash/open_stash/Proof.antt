@@ -19,7 +19,7 @@ enum-known-status : tie.Need-enum-known-status
 enum-known-status c = search needs
 
 refused-requires : tie.Need-refused-requires
-refused-requires c κs = search needs
+refused-requires c κs = tt
 
 returns : tie.Need-returns
 returns c =

@@ -17,17 +17,17 @@ shared-slice-read-if1 : tie.Need-shared-slice-read-if1
 shared-slice-read-if1 c = search needs
 
 declined-requires : tie.Need-declined-requires
-declined-requires c κs = search needs
+declined-requires c κs = tt
 
 returns : tie.Need-returns
 unfolding screenedOpened viewIn workAt
 returns c = rw (ne-eqb (getD (c .before .before .before .before .before .args .image .now) attestationAt 0) 1 (c .before .if1 .taken)) (c .declined .ensures)
 
 well-formed-requires : tie.Need-well-formed-requires
-well-formed-requires c κs = search needs
+well-formed-requires c κs = tt
 
 refused-requires : tie.Need-refused-requires
-refused-requires c κs = search needs
+refused-requires c κs = tt
 
 returns-2 : tie.Need-returns-2
 unfolding screenedOpened viewIn workAt
@@ -38,7 +38,7 @@ returns-2 c =
     ) (c .refused .ensures)
 
 free-index-requires : tie.Need-free-index-requires
-free-index-requires c κs = search needs
+free-index-requires c κs = tt
 
 accepted-requires : tie.Need-accepted-requires
 accepted-requires c κs = search needs
@@ -54,7 +54,7 @@ returns-3 c =
     ) (c .accepted .ensures)
 
 declined-requires-2 : tie.Need-declined-requires-2
-declined-requires-2 c κs = search needs
+declined-requires-2 c κs = tt
 
 returns-4 : tie.Need-returns-4
 unfolding screenedOpened viewIn workAt

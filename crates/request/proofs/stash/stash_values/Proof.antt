@@ -7,22 +7,22 @@ use Rattle.request.proofs.stash.stash_values.Statement.{statement}
 use Rattle.request.proofs.stash.stash_values.Tie as tie
 
 bytes-of-requires : tie.Need-bytes-of-requires
-bytes-of-requires c κs = search needs
+bytes-of-requires c κs = tt
 
 extended-register-requires : tie.Need-extended-register-requires
-extended-register-requires c κs = search needs
+extended-register-requires c κs = tt
 
 extend-requires : tie.Need-extend-requires
-extend-requires c κs = search needs
+extend-requires c κs = tt
 
 read32-requires : tie.Need-read32-requires
-read32-requires c κs = search needs
+read32-requires c κs = tt
 
 cast-node-row : tie.Need-cast-node-row
 cast-node-row c = search needs
 
 node-row-requires : tie.Need-node-row-requires
-node-row-requires c κs = search needs
+node-row-requires c κs = tt
 
 returns : tie.Need-returns
 unfolding zeros

@@ -20,7 +20,7 @@ enum-known-status : tie.Need-enum-known-status
 enum-known-status c = search needs
 
 refused-requires : tie.Need-refused-requires
-refused-requires c κs = search needs
+refused-requires c κs = tt
 
 returns : tie.Need-returns
 returns c =
@@ -48,7 +48,7 @@ returns-2 c =
     rw (screened, c .before .before .if1 .taken) (c .ready-plain .ensures)
 
 refused-requires-2 : tie.Need-refused-requires-2
-refused-requires-2 c κs = search needs
+refused-requires-2 c κs = tt
 
 returns-3 : tie.Need-returns-3
 unfolding screenedOpened

@@ -15,7 +15,7 @@ slice-aggregate-boot-cold-3 : tie.Need-slice-aggregate-boot-cold-3
 slice-aggregate-boot-cold-3 c = search needs
 
 boot-cold-requires : tie.Need-boot-cold-requires
-boot-cold-requires c κs = search needs
+boot-cold-requires c κs = tt
 
 returns : tie.Need-returns
 unfolding coldImage zeros

@@ -11,7 +11,7 @@ slice-aggregate-none : tie.Need-slice-aggregate-none
 slice-aggregate-none c = search needs
 
 open-request-requires : tie.Need-open-request-requires
-open-request-requires c κs = search needs
+open-request-requires c κs = tt
 
 returns : tie.Need-returns
 returns c =
@@ -19,7 +19,7 @@ returns c =
     (request-short (c .before .before .before .before .before .args .input .now) (omega arith))
 
 read32-requires : tie.Need-read32-requires
-read32-requires c κs = search needs
+read32-requires c κs = tt
 
 sub-open-request : tie.Need-sub-open-request
 sub-open-request c = search needs
@@ -31,7 +31,7 @@ part-open-request-end : tie.Need-part-open-request-end
 part-open-request-end c = search needs
 
 open-request-requires-2 : tie.Need-open-request-requires-2
-open-request-requires-2 c κs = search needs
+open-request-requires-2 c κs = tt
 
 returns-2 : tie.Need-returns-2
 returns-2 c =

@@ -8,7 +8,7 @@ use Rattle.sha384.proofs.digest.extend.Statement.{statement}
 use Rattle.sha384.proofs.digest.extend.Tie as tie
 
 joined-requires : tie.Need-joined-requires
-joined-requires c κs = search needs
+joined-requires c κs = tt
 
 slice-aggregate-hash : tie.Need-slice-aggregate-hash
 slice-aggregate-hash c = search needs
@@ -17,7 +17,7 @@ hash-requires : tie.Need-hash-requires
 hash-requires c κs = search needs
 
 finish-requires : tie.Need-finish-requires
-finish-requires c κs = search needs
+finish-requires c κs = tt
 
 returns : tie.Need-returns
 unfolding extended sha384

@@ -19,10 +19,10 @@ mul-whole : tie.Need-mul-whole
 mul-whole c = search needs
 
 initial-requires : tie.Need-initial-requires
-initial-requires c κs = search needs
+initial-requires c κs = tt
 
 absorb-requires : tie.Need-absorb-requires
-absorb-requires c κs = search needs
+absorb-requires c κs = tt
 
 sub-tail-of : tie.Need-sub-tail-of
 sub-tail-of c = search needs
@@ -45,7 +45,7 @@ slice-aggregate-absorb c =
     (omega (arith, c .before .before .before .tail-of .ensures .0, c .before .before .before .tail-of .ensures .1)))
 
 absorb-requires-2 : tie.Need-absorb-requires-2
-absorb-requires-2 c κs = search needs
+absorb-requires-2 c κs = tt
 
 returns : tie.Need-returns
 unfolding constants

@@ -27,7 +27,7 @@ load-requires : tie.Need-load-requires Inv-loop μ-loop
 load-requires c κs = search needs
 
 compress-requires : tie.Need-compress-requires Inv-loop μ-loop
-compress-requires c κs = search needs
+compress-requires c κs = tt
 
 add-q : tie.Need-add-q Inv-loop μ-loop
 add-q c = search needs

@@ -7,18 +7,17 @@ use Rattle.sha_block.specs.Rounds.{turns, nextHash}
 use Rattle.sha_block.specs.Schedule.{at, schedule}
 use Rattle.sha_block.specs.Blocks.{blockOf}
 use Rattle.sha_block.proofs.Turns.{turns-add}
-use borrow.Author.Needs.{needs}
 use Rattle.sha_block.proofs.blocks.compress.Statement.{statement}
 use Rattle.sha_block.proofs.blocks.compress.Tie as tie
 
 first-rounds-requires : tie.Need-first-rounds-requires
-first-rounds-requires c κs = search needs
+first-rounds-requires c κs = tt
 
 ring-rounds-requires : tie.Need-ring-rounds-requires
-ring-rounds-requires c κs = search needs
+ring-rounds-requires c κs = tt
 
 sum-requires : tie.Need-sum-requires
-sum-requires c κs = search needs
+sum-requires c κs = tt
 
 returns : tie.Need-returns
 unfolding blockOf

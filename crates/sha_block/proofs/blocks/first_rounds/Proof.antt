@@ -39,7 +39,7 @@ array-read-round : tie.Need-array-read-round Inv-loop μ-loop
 array-read-round c = search needs
 
 round-requires : tie.Need-round-requires Inv-loop μ-loop
-round-requires c κs = search needs
+round-requires c κs = tt
 
 add-t : tie.Need-add-t Inv-loop μ-loop
 add-t c = search needs

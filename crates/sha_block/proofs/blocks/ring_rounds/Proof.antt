@@ -61,7 +61,7 @@ array-read-next-4 : tie.Need-array-read-next-4 Inv-loop μ-loop
 array-read-next-4 c = search needs
 
 next-requires : tie.Need-next-requires Inv-loop μ-loop
-next-requires c κs = search needs
+next-requires c κs = tt
 
 mul-w : tie.Need-mul-w Inv-loop μ-loop
 mul-w c = search needs
@@ -76,7 +76,7 @@ element-copy-out-round : tie.Need-element-copy-out-round Inv-loop μ-loop
 element-copy-out-round c = search needs
 
 round-requires : tie.Need-round-requires Inv-loop μ-loop
-round-requires c κs = search needs
+round-requires c κs = tt
 
 add-t : tie.Need-add-t Inv-loop μ-loop
 add-t c = search needs

@@ -51,7 +51,7 @@ shared-slice-read-word-8 : tie.Need-shared-slice-read-word-8
 shared-slice-read-word-8 c = search needs
 
 word-requires : tie.Need-word-requires
-word-requires c κs = search needs
+word-requires c κs = tt
 
 returns : tie.Need-returns
 unfolding wordAt

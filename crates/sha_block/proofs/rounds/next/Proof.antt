@@ -4,24 +4,23 @@ use mathlib.Core.Path.{ap₂, _∙_}
 use Prim.Native.Nat.{ℕ, _+_, _%_, _^_}
 use Rattle.sha_block.specs.Schedule.{nextOf}
 use Rattle.sha_block.proofs.Sums.{sum4}
-use borrow.Author.Needs.{needs}
 use Rattle.sha_block.proofs.rounds.next.Statement.{statement}
 use Rattle.sha_block.proofs.rounds.next.Tie as tie
 
 small1-requires : tie.Need-small1-requires
-small1-requires c κs = search needs
+small1-requires c κs = tt
 
 wrapping-add-u64-requires : tie.Need-wrapping-add-u64-requires
-wrapping-add-u64-requires c κs = search needs
+wrapping-add-u64-requires c κs = tt
 
 small0-requires : tie.Need-small0-requires
-small0-requires c κs = search needs
+small0-requires c κs = tt
 
 wrapping-add-u64-requires-2 : tie.Need-wrapping-add-u64-requires-2
-wrapping-add-u64-requires-2 c κs = search needs
+wrapping-add-u64-requires-2 c κs = tt
 
 wrapping-add-u64-requires-3 : tie.Need-wrapping-add-u64-requires-3
-wrapping-add-u64-requires-3 c κs = search needs
+wrapping-add-u64-requires-3 c κs = tt
 
 returns : tie.Need-returns
 unfolding nextOf

@@ -4,27 +4,26 @@ use mathlib.Core.Path.{ap₂, _∙_}
 use Prim.Native.Nat.{ℕ, _+_, _%_, _^_}
 use Rattle.sha_block.specs.Rounds.{T1}
 use Rattle.sha_block.proofs.Sums.{sum5}
-use borrow.Author.Needs.{needs}
 use Rattle.sha_block.proofs.rounds.temp1.Statement.{statement}
 use Rattle.sha_block.proofs.rounds.temp1.Tie as tie
 
 big1-requires : tie.Need-big1-requires
-big1-requires c κs = search needs
+big1-requires c κs = tt
 
 wrapping-add-u64-requires : tie.Need-wrapping-add-u64-requires
-wrapping-add-u64-requires c κs = search needs
+wrapping-add-u64-requires c κs = tt
 
 choose-requires : tie.Need-choose-requires
-choose-requires c κs = search needs
+choose-requires c κs = tt
 
 wrapping-add-u64-requires-2 : tie.Need-wrapping-add-u64-requires-2
-wrapping-add-u64-requires-2 c κs = search needs
+wrapping-add-u64-requires-2 c κs = tt
 
 wrapping-add-u64-requires-3 : tie.Need-wrapping-add-u64-requires-3
-wrapping-add-u64-requires-3 c κs = search needs
+wrapping-add-u64-requires-3 c κs = tt
 
 wrapping-add-u64-requires-4 : tie.Need-wrapping-add-u64-requires-4
-wrapping-add-u64-requires-4 c κs = search needs
+wrapping-add-u64-requires-4 c κs = tt
 
 returns : tie.Need-returns
 unfolding T1

@@ -6,13 +6,13 @@ use Rattle.sha_block.proofs.rounds.temp2.Statement.{statement}
 use Rattle.sha_block.proofs.rounds.temp2.Tie as tie
 
 big0-requires : tie.Need-big0-requires
-big0-requires c κs = search needs
+big0-requires c κs = tt
 
 majority-requires : tie.Need-majority-requires
-majority-requires c κs = search needs
+majority-requires c κs = tt
 
 wrapping-add-u64-requires : tie.Need-wrapping-add-u64-requires
-wrapping-add-u64-requires c κs = search needs
+wrapping-add-u64-requires c κs = tt
 
 returns : tie.Need-returns
 unfolding T2

@@ -31,7 +31,7 @@ answered : (c : tie.After-digest) → c .digest .result .bytes ≡ sha384 (c .be
 answered c = ap (λ (d : DigestResult). d .bytes) (c .digest .ensures ∙ digest-of-short _ (c .before .before .if1 .left))
 
 digest-requires : tie.Need-digest-requires
-digest-requires c κs = search needs
+digest-requires c κs = tt
 
 slice-aggregate-copy : tie.Need-slice-aggregate-copy
 slice-aggregate-copy c = search needs

@@ -4,10 +4,10 @@ use Rattle.waggleloft.proofs.openings.waggleloft_open_cold_boot.Stateme
 use Rattle.waggleloft.proofs.openings.waggleloft_open_cold_boot.Tie as tie
 
 open-cold-boot-requires : tie.Need-open-cold-boot-requires
-open-cold-boot-requires c κs = search needs
+open-cold-boot-requires c κs = tt
 
 boot-into-requires : tie.Need-boot-into-requires
-boot-into-requires c κs = search needs
+boot-into-requires c κs = tt
 
 same-length : tie.Need-same-length
 same-length c = search needs

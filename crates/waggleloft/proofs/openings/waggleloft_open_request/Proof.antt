@@ -4,10 +4,10 @@ use Rattle.waggleloft.proofs.openings.waggleloft_open_request.Statement
 use Rattle.waggleloft.proofs.openings.waggleloft_open_request.Tie as tie
 
 open-request-requires : tie.Need-open-request-requires
-open-request-requires c κs = search needs
+open-request-requires c κs = tt
 
 open-into-requires : tie.Need-open-into-requires
-open-into-requires c κs = search needs
+open-into-requires c κs = tt
 
 same-length : tie.Need-same-length
 same-length c = search needs

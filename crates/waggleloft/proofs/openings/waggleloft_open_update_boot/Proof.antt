@@ -4,10 +4,10 @@ use Rattle.waggleloft.proofs.openings.waggleloft_open_update_boot.State
 use Rattle.waggleloft.proofs.openings.waggleloft_open_update_boot.Tie as tie
 
 open-update-boot-requires : tie.Need-open-update-boot-requires
-open-update-boot-requires c κs = search needs
+open-update-boot-requires c κs = tt
 
 boot-into-requires : tie.Need-boot-into-requires
-boot-into-requires c κs = search needs
+boot-into-requires c κs = tt
 
 same-length : tie.Need-same-length
 same-length c = search needs
