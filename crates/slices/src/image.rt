@@ -28,7 +28,7 @@ fn word_after(image: &[u32], at: usize, k: usize) -> u32
 }
 
 // The words of a register or a measurement, from an index on.
-pub fn part12(image: &[u32], at: usize) -> [u32; REGISTER_WORDS]
+pub(crate) fn part12(image: &[u32], at: usize) -> [u32; REGISTER_WORDS]
     ensures { λ r. ⌜ r ≡ part registerWords (now (image .entry)) at ⌝ }
 {
     let mut out = [0u32; REGISTER_WORDS];

@@ -101,7 +101,7 @@ pub fn four(n: u32) -> [u8; 4]
 }
 
 // The 48 bytes of twelve words.
-pub fn unpack(ws: [u32; REGISTER_WORDS]) -> [u8; 48]
+pub(crate) fn unpack(ws: [u32; REGISTER_WORDS]) -> [u8; 48]
     ensures { λ r. ⌜ r ≡ bytes48 ws ⌝ }
 {
     let mut out = [0u8; 48];
