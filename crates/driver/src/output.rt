@@ -8,7 +8,7 @@ use libc::STDOUT_FILENO;
 use machine::Report;
 use opening::Outcome;
 use opening::works::outcome_number;
-use slices::little_endian::four;
+use packing::four;
 
 // What is written for a number of the work in hand where there is none.
 pub const NO_WORK: u32 = 0xFFFFFFFF;

@@ -12,7 +12,7 @@ ghost use Rattle.flat.specs.Flat.{AllBytes, PartsLong, workSize, answerW
 use layout::ANSWER_MAX;
 use layout::NODE_WORDS;
 use layout::REGISTER_WORDS;
-use slices::image::word;
+use packing::word;
 use slices::little_endian::read32;
 use table::Kind;
 use work::Work;

@@ -8,8 +8,8 @@ use flat::words::LENGTH_IN;
 use flat::words::POSITION_IN;
 use flat::words::SECOND_IN;
 use layout::ANSWER_MAX;
-use slices::image::word;
-use slices::little_endian::byte_of;
+use packing::byte_of;
+use packing::word;
 use table::Kind;
 use table::StashAt;
 

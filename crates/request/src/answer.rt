@@ -13,7 +13,7 @@ use making::no_values;
 use opening::Opened;
 use opening::Status;
 use opening::works::ready;
-use slices::little_endian::four;
+use packing::four;
 use table::Kind;
 
 fn sealed(code: u32, rest: &[u8]) -> Answer

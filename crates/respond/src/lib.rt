@@ -18,7 +18,7 @@ use layout::IMAGE_WORDS;
 use making::run::run_all;
 use opening::Status;
 use opening::works::number_of;
-use slices::little_endian::four;
+use packing::four;
 use work::Work;
 
 // The bytes of an input that are used.

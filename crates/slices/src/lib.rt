@@ -1,5 +1,4 @@
-// Reading slices of any length, at any index: words of a memory image, little-endian numbers, byte
-// strings of 48 as words and back. What stands past the end is 0.
-pub mod image;
+// Reading byte slices of any length, at any index: little-endian numbers, and byte strings of 48, also as
+// words. What stands past the end is 0.
 pub mod little_endian;
 pub mod strings;

@@ -1,10 +1,10 @@
-// Little-endian numbers in a byte slice, and 48 bytes as twelve words and back, at any index of a
-// slice of any length: a byte past its end is 0.
+// Little-endian numbers in a byte slice, and 48 bytes as twelve words, at any index of a slice of any
+// length: a byte past its end is 0.
 ghost use mathlib.Core.Path.{_≡_};
 ghost use Prim.Native.Nat.{_+_, _*_, _<_};
 ghost use lib.ListN.{getD};
 ghost use Rattle.layout.specs.Sizes.{registerWords};
-ghost use Rattle.layout.specs.Words.{le16, le32, byteOf, bytes4, wordsAt, bytes48};
+ghost use Rattle.layout.specs.Words.{le16, le32, wordsAt};
 use layout::REGISTER_WORDS;
 
 fn wide(b: u8) -> u32
@@ -70,44 +70,6 @@ pub fn pack(s: &[u8], at: usize) -> [u32; REGISTER_WORDS]
     let mut k = 0;
     while k < REGISTER_WORDS {
         out[k] = word_of(s, at, k);
-        k += 1;
-    }
-    out
-}
-
-// Byte j of a word, the lowest first; from byte 4 on 0.
-pub fn byte_of(w: u32, j: usize) -> u8
-    ensures { λ r. ⌜ r ≡ byteOf w j ⌝ }
-{
-    match j {
-        0 => (w % 256) as u8,
-        1 => (w / 256 % 256) as u8,
-        2 => (w / 65536 % 256) as u8,
-        3 => (w / 16777216 % 256) as u8,
-        _ => 0,
-    }
-}
-
-// The four bytes of a number.
-pub fn four(n: u32) -> [u8; 4]
-    ensures { λ r. ⌜ r ≡ bytes4 n ⌝ }
-{
-    [
-        (n % 256) as u8,
-        (n / 256 % 256) as u8,
-        (n / 65536 % 256) as u8,
-        (n / 16777216 % 256) as u8,
-    ]
-}
-
-// The 48 bytes of twelve words.
-pub(crate) fn unpack(ws: [u32; REGISTER_WORDS]) -> [u8; 48]
-    ensures { λ r. ⌜ r ≡ bytes48 ws ⌝ }
-{
-    let mut out = [0u8; 48];
-    let mut k = 0;
-    while k < 48 {
-        out[k] = byte_of(ws[k / 4], k % 4);
         k += 1;
     }
     out

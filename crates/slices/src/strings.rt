@@ -1,11 +1,8 @@
-// Byte strings of 48, from any index of a slice of bytes or of words: past its end are zeros.
+// Byte strings of 48, from any index of a slice: past its end are zeros.
 ghost use mathlib.Core.Path.{_≡_};
 ghost use Prim.Native.Nat.{_+_};
-ghost use Rattle.layout.specs.Sizes.{registerWords};
-ghost use Rattle.layout.specs.Words.{part, bytes48};
-use crate::image::part12;
+ghost use Rattle.layout.specs.Words.{part};
 use crate::little_endian::byte;
-use crate::little_endian::unpack;
 
 // The 48 bytes of a slice from an index on.
 pub fn bytes_of(s: &[u8], at: usize) -> [u8; 48]
@@ -18,11 +15,4 @@ pub fn bytes_of(s: &[u8], at: usize) -> [u8; 48]
         k += 1;
     }
     out
-}
-
-// The 48 bytes of twelve words of an image.
-pub fn bytes_in(image: &[u32], at: usize) -> [u8; 48]
-    ensures { λ r. ⌜ r ≡ bytes48 (part registerWords (now (image .entry)) at) ⌝ }
-{
-    unpack(part12(image, at))
 }

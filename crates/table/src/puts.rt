@@ -24,7 +24,7 @@ use layout::REGISTER_WORDS;
 use layout::REGISTERS_AT;
 use layout::RETIRED_WORD;
 use layout::SECRET_AT;
-use slices::image::word;
+use packing::word;
 
 // The mark's values, and attestation's.
 const UNFINISHED: u32 = 0;

@@ -5,7 +5,7 @@ use Rattle.held.proofs.reading.kind_in.Statement.{statement}
 use Rattle.held.proofs.reading.kind_in.Tie as tie
 use Rattle.held.proofs.reading.kind_of.Reads as kind-of-reads
 use Rattle.held.proofs.reading.long_in.Reads as long-in-reads
-use Rattle.slices.proofs.image.word.Reads as word-reads
+use Rattle.packing.proofs.word.Reads as word-reads
 
 word-requires : tie.Need-word-requires
 word-requires c κs = tt

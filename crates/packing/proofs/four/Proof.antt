@@ -4,8 +4,8 @@ use mathlib.Core.Path.{sym, ap}
 use mathlib.Core.List.{[], _∷_}
 use native.Mathlib.Nat.{div-one}
 use borrow.Author.Needs.{needs}
-use Rattle.slices.proofs.little_endian.four.Statement.{statement}
-use Rattle.slices.proofs.little_endian.four.Tie as tie
+use Rattle.packing.proofs.four.Statement.{statement}
+use Rattle.packing.proofs.four.Tie as tie
 
 cast-t3 : tie.Need-cast-t3
 cast-t3 c = search needs

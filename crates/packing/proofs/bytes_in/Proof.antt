@@ -1,8 +1,8 @@
 -- The words, and their bytes.
 use mathlib.Core.Path.{ap, _∙_}
 use Rattle.layout.specs.Words.{bytes48}
-use Rattle.slices.proofs.strings.bytes_in.Statement.{statement}
-use Rattle.slices.proofs.strings.bytes_in.Tie as tie
+use Rattle.packing.proofs.bytes_in.Statement.{statement}
+use Rattle.packing.proofs.bytes_in.Tie as tie
 
 part12-requires : tie.Need-part12-requires
 part12-requires c κs = tt

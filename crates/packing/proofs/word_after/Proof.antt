@@ -4,8 +4,8 @@ use native.Mathlib.Omega.{arith}
 use Rattle.layout.proofs.Tab.{getD-past}
 use Prim.Native.Nat.{_+_}
 use borrow.Author.Needs.{needs}
-use Rattle.slices.proofs.image.word_after.Statement.{statement}
-use Rattle.slices.proofs.image.word_after.Tie as tie
+use Rattle.packing.proofs.word_after.Statement.{statement}
+use Rattle.packing.proofs.word_after.Tie as tie
 
 sub-if2 : tie.Need-sub-if2
 sub-if2 c = search needs

@@ -8,8 +8,8 @@ use lib.ListN.{length, take, getD, length-set}
 use Rattle.layout.specs.Sizes.{registerWords}
 use Rattle.layout.specs.Words.{tab, part}
 use Rattle.layout.proofs.Tab.{tab-none, tab-more, tab-full}
-use Rattle.slices.proofs.image.part12.Statement.{statement}
-use Rattle.slices.proofs.image.part12.Tie as tie
+use Rattle.packing.proofs.part12.Statement.{statement}
+use Rattle.packing.proofs.part12.Tie as tie
 
 abbrev Inv-loop : tie.InvT-loop
 Inv-loop image at out₀ k₀ out k = (k ≤ registerWords) × (length out ≡ registerWords) × (take k out ≡ tab k (λ j. getD image (at + j) 0))

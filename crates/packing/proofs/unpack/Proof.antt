@@ -8,8 +8,8 @@ use lib.ListN.{length, take, getD, length-set}
 use Rattle.layout.specs.Sizes.{registerWords}
 use Rattle.layout.specs.Words.{tab, byteOf, bytesIn}
 use Rattle.layout.proofs.Tab.{tab-none, tab-more, tab-full}
-use Rattle.slices.proofs.little_endian.unpack.Statement.{statement}
-use Rattle.slices.proofs.little_endian.unpack.Tie as tie
+use Rattle.packing.proofs.unpack.Statement.{statement}
+use Rattle.packing.proofs.unpack.Tie as tie
 
 abbrev Inv-loop : tie.InvT-loop
 Inv-loop ws out₀ k₀ out k = (k ≤ 4 * registerWords) × (length out ≡ 4 * registerWords) × (take k out ≡ tab k (λ j. byteOf (getD ws (j / 4) 0) (j % 4)))

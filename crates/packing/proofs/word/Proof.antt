@@ -3,8 +3,8 @@
 use native.Mathlib.Omega.{arith}
 use Rattle.layout.proofs.Tab.{getD-past}
 use borrow.Author.Needs.{needs}
-use Rattle.slices.proofs.image.word.Statement.{statement}
-use Rattle.slices.proofs.image.word.Tie as tie
+use Rattle.packing.proofs.word.Statement.{statement}
+use Rattle.packing.proofs.word.Tie as tie
 
 returns : tie.Need-returns
 returns c = getD-past (c .before .args .image .now) (c .before .args .at) (omega arith)

@@ -6,8 +6,8 @@ use native.Mathlib.Omega.{arith}
 use mathlib.Core.Path.{_≡_}
 use Rattle.layout.specs.Words.{byteOf}
 use borrow.Author.Needs.{needs}
-use Rattle.slices.proofs.little_endian.byte_of.Statement.{statement}
-use Rattle.slices.proofs.little_endian.byte_of.Tie as tie
+use Rattle.packing.proofs.byte_of.Statement.{statement}
+use Rattle.packing.proofs.byte_of.Tie as tie
 
 past : (w j : ℕ) → w < 256 ^ 4 → 4 ≤ j → 0 ≡ byteOf w j
 past w j s h =
