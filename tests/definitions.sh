@@ -13,17 +13,8 @@ cd "$(dirname "$(readlink -f "${BASH_SOURCE[0]}")")/.."
 . tests/shell.sh
 . tests/expect.sh
 
-usage="usage: tests/definitions.sh [--help]
-  Tries each wrong definition of tests/definitions/."
-case ${1-} in
-'') ;;
--h | --help)
-    echo "$usage"
-    exit 0
-    ;;
-*) die 2 "there is no '$1' (tests/definitions.sh --help)" ;;
-esac
-[ $# -le 1 ] || die 2 "too many words (tests/definitions.sh --help)"
+only_help "usage: tests/definitions.sh [--help]
+  Tries each wrong definition of tests/definitions/." "$@"
 for folder in target/rlib target/stamp; do
     [ -d "$folder" ] || die 1 "$folder is missing: 'rt check' makes it"
 done

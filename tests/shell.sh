@@ -24,3 +24,18 @@ need_cargo() {
 need_built() { # PROGRAM
     [ -x "target/bin/$1" ] || die 1 "target/bin/$1 is missing: 'rt check $1' builds it"
 }
+
+# Takes the words of a script that knows --help alone.
+only_help() { # USAGE WORDS..
+    local usage=$1
+    shift
+    case ${1-} in
+    '') ;;
+    -h | --help)
+        echo "$usage"
+        exit 0
+        ;;
+    *) die 2 "there is no '$1' (tests/${0##*/} --help)" ;;
+    esac
+    [ $# -le 1 ] || die 2 "too many words (tests/${0##*/} --help)"
+}

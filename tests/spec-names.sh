@@ -7,17 +7,8 @@ set -euo pipefail
 cd "$(dirname "$(readlink -f "${BASH_SOURCE[0]}")")/.."
 . tests/shell.sh
 
-usage="usage: tests/spec-names.sh [--help]
-  Checks the names of docs/SPEC.md and docs/PROOF.md against the files that they are said to stand in."
-case ${1-} in
-'') ;;
--h | --help)
-    echo "$usage"
-    exit 0
-    ;;
-*) die 2 "there is no '$1' (tests/spec-names.sh --help)" ;;
-esac
-[ $# -le 1 ] || die 2 "too many words (tests/spec-names.sh --help)"
+only_help "usage: tests/spec-names.sh [--help]
+  Checks the names of docs/SPEC.md and docs/PROOF.md against the files that they are said to stand in." "$@"
 
 # The file of a place: CRATE/NAME is a file of definitions; a path below the crate stands as it is.
 file_of() { # PLACE
