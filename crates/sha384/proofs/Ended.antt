@@ -1,11 +1,11 @@
 -- The blocks that end a padded message. Assumes nothing.
 use mathlib.Core.Path.{_≡_, refl, sym, ap, ap₂, _∙_}
-use mathlib.Core.List.{List, _∷_, _++_, append-assoc}
+use mathlib.Core.List.{List, [], _∷_, _++_, append-assoc, append-nil}
 use Prim.Native.Nat.{ℕ, suc, _+_, _-_, _*_, _/_, _%_, _^_, _≤_, _<_}
 use native.Mathlib.Omega.{arith}
-use lib.ListN.{length, take, drop, set, replicate, length-append, length-replicate, replicate-append-replicate}
+use lib.ListN.{length, take, drop, set, replicate, length-append, length-replicate, replicate-append-replicate, drop-of-length-le}
 use lib.Seq.{sets, sets-eq, take-all, take-at, drop-at, set-at}
-use Rattle.sha384.specs.Sha384.{bytesOf, padding, padded}
+use Rattle.sha384.specs.Sha384.{bytesOf, padding}
 
 abbrev zeros : ℕ → List ℕ
 zeros n = replicate n 0
@@ -29,42 +29,63 @@ length-bytes x h =
     let z8 : (x / 256 ^ 8) % 256 ≡ 0 = omega arith in
     cc
 
--- the last bytes of a message of `total` bytes, the byte 128 and the length in bits, stored into zeros, are what ends the padded message
-pub ended : (rest o1 o2 : List ℕ) (total : ℕ) → length rest ≡ total % 128 → total < 2 ^ 61
-    → o1 ≡ take (length rest) rest ++ drop (length rest) (replicate 256 0)
-    → o2 ≡ sets (set o1 (length rest) 128) ((length rest + 144) / 128 * 128 - 8) (bytesOf 8 (total * 8))
-    → take ((length rest + 144) / 128 * 128) o2 ≡ rest ++ padding total
-unfolding padding
-ended rest o1 o2 total hn ht e1 e2 =
-    let n = length rest in
-    let len = (n + 144) / 128 * 128 in
-    let g = len - 9 - n in
-    let b = rest ++ (128 ∷ zeros (255 - n)) in
-    let front = rest ++ (128 ∷ zeros g) in
-    let vs = bytesOf 8 (total * 8) in
-    let small : n < 128 = omega arith in
-    let room : len ≤ 256 = omega arith in
-    let full : n + 9 ≤ len = omega arith in
-    let count : 256 - n ≡ suc (255 - n) = omega arith in
-    let s1 : o1 ≡ rest ++ (0 ∷ zeros (255 - n)) =
-    e1
-    ∙ ap₂ (λ (x y : List ℕ). x ++ y) (take-all n rest (omega arith))
-    (ap (drop n) (zeros-add n (256 - n) 256 (omega arith)) ∙ drop-at (zeros n) (zeros (256 - n)) n (length-zeros n) ∙ ap zeros count) in
-    let s2 : set o1 n 128 ≡ b = ap (λ (l : List ℕ). set l n 128) s1 ∙ set-at rest 0 (zeros (255 - n)) 128 n refl in
-    let lb : length b ≡ 256 = length-append rest (128 ∷ zeros (255 - n)) ∙ omega (arith, length-zeros (255 - n)) in
-    let lf : length front ≡ len - 8 = length-append rest (128 ∷ zeros g) ∙ omega (arith, length-zeros g) in
-    let split : b ≡ front ++ zeros (255 - n - g) =
-    ap (λ (l : List ℕ). rest ++ (128 ∷ l)) (zeros-add g (255 - n - g) (255 - n) (omega arith))
-    ∙ sym (append-assoc rest (128 ∷ zeros g) (zeros (255 - n - g))) in
-    let head : take (len - 8) b ≡ front = ap (take (len - 8)) split ∙ take-at front (zeros (255 - n - g)) (len - 8) lf in
-    let stored : o2 ≡ (front ++ vs) ++ drop (len - 8 + 8) b =
-    e2 ∙ ap (λ (l : List ℕ). sets l (len - 8) vs) s2 ∙ sets-eq vs b (len - 8) (omega arith)
-    ∙ ap (λ (l : List ℕ). (l ++ vs) ++ drop (len - 8 + 8) b) head in
-    let lv : length (front ++ vs) ≡ len = length-append front vs ∙ omega (arith, lf) in
+-- the zeros of the padding and the length, with the eight zeros before its bytes counted to the others
+ending : (total g : ℕ) → total < 2 ^ 61 → (239 - total % 128) % 128 + 8 ≡ g
+    → zeros g ++ bytesOf 8 (total * 8) ≡ zeros ((239 - total % 128) % 128) ++ bytesOf 16 (total * 8)
+ending total g h e =
     let gap = (239 - total % 128) % 128 in
-    let more : gap + 8 ≡ g = omega arith in
-    ap (take len) stored ∙ take-at (front ++ vs) (drop (len - 8 + 8) b) len lv
-    ∙ append-assoc rest (128 ∷ zeros g) vs
-    ∙ ap (λ (l : List ℕ). rest ++ (128 ∷ l))
-    (ap (λ (l : List ℕ). l ++ vs) (zeros-add gap 8 g more) ∙ append-assoc (zeros gap) (zeros 8) vs
-    ∙ ap (λ (l : List ℕ). zeros gap ++ l) (sym (length-bytes (total * 8) (omega arith))))
+    let vs = bytesOf 8 (total * 8) in
+    ap (λ (l : List ℕ). l ++ vs) (zeros-add gap 8 g e) ∙ append-assoc (zeros gap) (zeros 8) vs
+    ∙ ap (λ (l : List ℕ). zeros gap ++ l) (sym (length-bytes (total * 8) (omega arith)))
+
+-- a block of the last bytes, the byte 128 and zeros
+abbrev pub marked : List ℕ → List ℕ
+marked last = last ++ (128 ∷ zeros (127 - length last))
+
+pub length-marked : (last : List ℕ) → length last < 128 → length (marked last) ≡ 128
+length-marked last h = length-append last (128 ∷ zeros (127 - length last)) ∙ omega (arith, length-zeros (127 - length last))
+
+-- it is what the copy into zeros and the store of the byte make
+pub marks : (last o : List ℕ) → length last < 128 → o ≡ take (length last) last ++ drop (length last) (replicate 128 0) → set o (length last) 128 ≡ marked last
+marks last o h e =
+    let n = length last in
+    let count : 128 - n ≡ suc (127 - n) = omega arith in
+    let copied : o ≡ last ++ (0 ∷ zeros (127 - n)) =
+    e
+    ∙ ap₂ (λ (x y : List ℕ). x ++ y) (take-all n last (omega arith))
+    (ap (drop n) (zeros-add n (128 - n) 128 (omega arith)) ∙ drop-at (zeros n) (zeros (128 - n)) n (length-zeros n) ∙ ap zeros count) in
+    ap (λ (l : List ℕ). set l n 128) copied ∙ set-at last 0 (zeros (127 - n)) 128 n refl
+
+-- eight bytes stored at the end of a block
+last-eight : (b front vs : List ℕ) → b ≡ front ++ zeros 8 → length front ≡ 120 → length vs ≡ 8 → sets b 120 vs ≡ front ++ vs
+last-eight b front vs e l v =
+    let lb : length b ≡ 128 = ap length e ∙ length-append front (zeros 8) ∙ omega (arith, l) in
+    let rest : drop (120 + length vs) b ≡ [] = drop-of-length-le b {i = 120 + length vs} (omega arith) in
+    sets-eq vs b 120 (omega arith)
+    ∙ ap₂ (λ (x y : List ℕ). (x ++ vs) ++ y) (ap (take 120) e ∙ take-at front (zeros 8) 120 l) rest ∙ append-nil (front ++ vs)
+
+-- where the length still fits, that block with the length is what ends the padded message
+pub one-block : (last : List ℕ) (total : ℕ) → length last ≡ total % 128 → total < 2 ^ 61 → length last < 112
+    → sets (marked last) 120 (bytesOf 8 (total * 8)) ≡ last ++ padding total
+unfolding padding
+one-block last total h t lt =
+    let n = length last in
+    let vs = bytesOf 8 (total * 8) in
+    let split : marked last ≡ (last ++ (128 ∷ zeros (119 - n))) ++ zeros 8 =
+    ap (λ (l : List ℕ). last ++ (128 ∷ l)) (zeros-add (119 - n) 8 (127 - n) (omega arith)) ∙ sym (append-assoc last (128 ∷ zeros (119 - n)) (zeros 8)) in
+    last-eight (marked last) (last ++ (128 ∷ zeros (119 - n))) vs split
+    (length-append last (128 ∷ zeros (119 - n)) ∙ omega (arith, length-zeros (119 - n))) refl
+    ∙ append-assoc last (128 ∷ zeros (119 - n)) vs ∙ ap (λ (l : List ℕ). last ++ (128 ∷ l)) (ending total (119 - n) t (omega arith))
+
+-- where it does not, a second block has the length alone
+pub two-blocks : (last : List ℕ) (total : ℕ) → length last ≡ total % 128 → total < 2 ^ 61 → 112 ≤ length last
+    → marked last ++ sets (replicate 128 0) 120 (bytesOf 8 (total * 8)) ≡ last ++ padding total
+unfolding padding
+two-blocks last total h t le =
+    let n = length last in
+    let vs = bytesOf 8 (total * 8) in
+    let second : sets (zeros 128) 120 vs ≡ zeros 120 ++ vs = last-eight (zeros 128) (zeros 120) vs (zeros-add 120 8 128 refl) refl refl in
+    ap (λ (l : List ℕ). marked last ++ l) second ∙ append-assoc last (128 ∷ zeros (127 - n)) (zeros 120 ++ vs)
+    ∙ ap (λ (l : List ℕ). last ++ (128 ∷ l))
+    (sym (append-assoc (zeros (127 - n)) (zeros 120) vs) ∙ ap (λ (l : List ℕ). l ++ vs) (sym (zeros-add (127 - n) 120 (247 - n) (omega arith)))
+    ∙ ending total (247 - n) t (omega arith))

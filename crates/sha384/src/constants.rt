@@ -1,7 +1,7 @@
 // The round constants and the initial hash value (FIPS 180-4, sections 4.2.3 and 5.3.4).
 ghost use mathlib.Core.Path.{_≡_};
+ghost use Rattle.sha_block.specs.Blocks.{hashWords};
 ghost use Rattle.sha384.specs.Constants.{initialOf};
-use sha_block::state::State;
 
 // K_0 to K_79. An indexed constant is written to the stack at each use: copy it once and lend it.
 pub(crate) const K: [u64; 80] = [
@@ -87,17 +87,18 @@ pub(crate) const K: [u64; 80] = [
     0x6c44198c4a475817,
 ];
 
-pub(crate) fn initial() -> State
-    ensures { λ r. ⌜ r ≡ initialOf ⌝ }
+// H_0 to H_7 before the first block.
+pub(crate) fn initial() -> [u64; 8]
+    ensures { λ r. ⌜ r ≡ hashWords initialOf ⌝ }
 {
-    State {
-        a: 0xcbbb9d5dc1059ed8,
-        b: 0x629a292a367cd507,
-        c: 0x9159015a3070dd17,
-        d: 0x152fecd8f70e5939,
-        e: 0x67332667ffc00b31,
-        f: 0x8eb44a8768581511,
-        g: 0xdb0c2e0d64f98fa7,
-        h: 0x47b5481dbefa4fa4,
-    }
+    [
+        0xcbbb9d5dc1059ed8,
+        0x629a292a367cd507,
+        0x9159015a3070dd17,
+        0x152fecd8f70e5939,
+        0x67332667ffc00b31,
+        0x8eb44a8768581511,
+        0xdb0c2e0d64f98fa7,
+        0x47b5481dbefa4fa4,
+    ]
 }

@@ -3,14 +3,14 @@ ghost use mathlib.Core.Path.{_≡_};
 ghost use Prim.Native.Nat.{_≤_};
 ghost use mathlib.Core.List.{_++_};
 ghost use lib.ListN.{length};
-ghost use Rattle.sha384.specs.Sha384.{hashOf, firstSix};
+ghost use Rattle.sha_block.specs.Blocks.{hashValue};
+ghost use Rattle.sha384.specs.Sha384.{firstSix, sha384};
 ghost use Rattle.sha384.specs.Entries.{longest, digestOf, extended};
 use crate::constants::K;
 use crate::constants::initial;
+use crate::padding::conclude;
 use crate::padding::put_word;
-use crate::padding::tail_of;
 use sha_block::blocks::absorb;
-use sha_block::state::State;
 
 // The longest message, in bytes.
 pub const LONGEST: usize = 65535;
@@ -21,33 +21,32 @@ pub struct DigestResult {
     pub bytes: [u8; 48],
 }
 
-// The hash value after all blocks of the padded message.
-fn hash(message: &[u8]) -> State
-    requires { ⌜ length (now message) ≤ longest ⌝ }
-    ensures { λ r. ⌜ r ≡ hashOf (now (message .entry)) ⌝ }
-{
-    let k = K;
-    let n = message.len();
-    let whole = n / 128 * 128;
-    let h = absorb(&k, initial(), message);
-    let t = tail_of(&message[whole..], n as u64);
-    let bytes = t.bytes;
-    let len = t.len;
-    absorb(&k, h, &bytes[..len])
-}
-
 // The bytes of the first six words.
-fn finish(s: State) -> [u8; 48]
-    ensures { λ r. ⌜ r ≡ firstSix s ⌝ }
+fn first_six(h: [u64; 8]) -> [u8; 48]
+    ensures { λ r. ⌜ r ≡ firstSix (hashValue h) ⌝ }
 {
     let mut out = [0u8; 48];
-    put_word(&mut out, 0, s.a);
-    put_word(&mut out, 8, s.b);
-    put_word(&mut out, 16, s.c);
-    put_word(&mut out, 24, s.d);
-    put_word(&mut out, 32, s.e);
-    put_word(&mut out, 40, s.f);
+    put_word(&mut out, 0, h[0]);
+    put_word(&mut out, 8, h[1]);
+    put_word(&mut out, 16, h[2]);
+    put_word(&mut out, 24, h[3]);
+    put_word(&mut out, 32, h[4]);
+    put_word(&mut out, 40, h[5]);
     out
+}
+
+// SHA-384 of a message.
+fn hash(message: &[u8]) -> [u8; 48]
+    requires { ⌜ length (now message) ≤ longest ⌝ }
+    ensures { λ r. ⌜ r ≡ sha384 (now (message .entry)) ⌝ }
+{
+    let k = K;
+    let mut h = initial();
+    let n = message.len();
+    let whole = n / 128 * 128;
+    absorb(&k, &mut h, message);
+    conclude(&k, &mut h, &message[whole..], n as u64);
+    first_six(h)
 }
 
 // The digest of a message of at most 65,535 bytes; a longer one is refused with 10.
@@ -55,7 +54,7 @@ pub fn digest(message: &[u8]) -> DigestResult
     ensures { λ r. ⌜ r ≡ digestOf (now (message .entry)) ⌝ }
 {
     if message.len() <= LONGEST {
-        let bytes = finish(hash(message));
+        let bytes = hash(message);
         DigestResult { number: 0, bytes }
     } else {
         DigestResult {
@@ -80,5 +79,5 @@ pub fn extend(x: [u8; 48], d: [u8; 48]) -> [u8; 48]
     ensures { λ r. ⌜ r ≡ extended x d ⌝ }
 {
     let message = joined(x, d);
-    finish(hash(&message))
+    hash(&message)
 }

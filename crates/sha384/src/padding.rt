@@ -1,16 +1,12 @@
 // The end of a padded message (FIPS 180-4, section 5.1.2), and the bytes of words.
 ghost use mathlib.Core.Path.{_≡_};
-ghost use Prim.Native.Nat.{_+_, _*_, _%_, _^_, _≤_, _<_};
+ghost use Prim.Native.Nat.{_+_, _/_, _%_, _^_, _≤_, _<_};
 ghost use mathlib.Core.List.{_++_};
-ghost use lib.ListN.{length, take};
+ghost use lib.ListN.{length};
 ghost use lib.Seq.{sets};
+ghost use Rattle.sha_block.specs.Blocks.{hashed, hashWords, hashValue};
 ghost use Rattle.sha384.specs.Sha384.{bytesOf, padding};
-
-// One or two blocks: the first `len` bytes are used, 128 or 256.
-pub(crate) struct Tail {
-    pub bytes: [u8; 256],
-    pub len: usize,
-}
+use sha_block::blocks::absorb;
 
 // Writes the eight bytes of a word, the highest first.
 pub(crate) fn put_word(out: &mut [u8], at: usize, x: u64)
@@ -27,16 +23,24 @@ pub(crate) fn put_word(out: &mut [u8], at: usize, x: u64)
     out[at + 7] = (x % 256) as u8;
 }
 
-// What follows the whole blocks of a message of `total` bytes: its last bytes, and the padding.
-pub(crate) fn tail_of(rest: &[u8], total: u64) -> Tail
-    requires { ⌜ (length (now rest) ≡ total % 128) × (total < 2 ^ 61) ⌝ }
-    ensures { λ r. ⌜ (r .len ≤ 256) × (length (r .bytes) ≡ 256) × (take (r .len) (r .bytes) ≡ now (rest .entry) ++ padding total) ⌝ }
+// Runs the one or two blocks that end the padded message over the lent hash value: `last` is what
+// follows the whole blocks of a message of `total` bytes. One buffer serves for both.
+pub(crate) fn conclude(k: &[u64; 80], h: &mut [u64; 8], last: &[u8], total: u64)
+    requires { ⌜ (length (now last) ≡ total % 128) × (total < 2 ^ 61) ⌝ }
+    ensures { λ _. ⌜ now (h .exit) ≡ hashWords (hashed (now (k .entry)) (hashValue (now (h .entry))) (now (last .entry) ++ padding total) (length (now (last .entry) ++ padding total) / 128)) ⌝ }
 {
-    let n = rest.len();
-    let len = (n + 144) / 128 * 128;
-    let mut buffer = [0u8; 256];
-    bytes::copy(rest, &mut buffer);
-    buffer[n] = 128;
-    put_word(&mut buffer, len - 8, total * 8);
-    Tail { bytes: buffer, len }
+    let n = last.len();
+    let bits = total * 8;
+    let mut block = [0u8; 128];
+    bytes::copy(last, &mut block);
+    block[n] = 128;
+    if n < 112 {
+        put_word(&mut block, 120, bits);
+        absorb(k, h, &block);
+    } else {
+        absorb(k, h, &block);
+        block = [0u8; 128];
+        put_word(&mut block, 120, bits);
+        absorb(k, h, &block);
+    }
 }

@@ -7,13 +7,18 @@ use native.Mathlib.Numerals.{add-one}
 use native.Mathlib.Omega.{arith}
 use lib.ListN.{length, getD, List·getD-append}
 use lib.Seq.{getD-append-add}
-use Rattle.sha_block.specs.Blocks.{wordAt, blockWords, blockOf, hashed}
+use Rattle.sha_block.specs.Blocks.{wordAt, blockWords, blockOf, hashed, hashWords, hashValue, absorbed}
 use Rattle.sha_block.specs.declared.state.State.{State}
 
 -- one block more
-pub hashed-more : (k : List ℕ) (h : State) (p w : List ℕ) (q : ℕ) {s r : State} → s ≡ hashed k h p q → w ≡ blockWords p (q * 128) 16 → r ≡ blockOf k s w
-    → r ≡ hashed k h p (q + 1)
-hashed-more k h p w q e ew er = rw add-one (er ∙ ap₂ (blockOf k) e ew)
+pub absorbed-more : (k h p : List ℕ) (q : ℕ) {l r : List ℕ} → l ≡ absorbed k h p q → r ≡ hashWords (blockOf k (hashValue l) (blockWords p (q * 128) 16))
+    → r ≡ absorbed k h p (q + 1)
+absorbed-more k h p q e er = rw add-one (er ∙ ap (λ (l : List ℕ). hashWords (blockOf k (hashValue l) (blockWords p (q * 128) 16))) e)
+
+-- over the words of a hash value
+pub absorbed-words : (k : List ℕ) (h : State) (p : List ℕ) (n : ℕ) → absorbed k (hashWords h) p n ≡ hashWords (hashed k h p n)
+absorbed-words k h p zero = refl
+absorbed-words k h p (suc n) = ap (λ (l : List ℕ). hashWords (blockOf k (hashValue l) (blockWords p (n * 128) 16))) (absorbed-words k h p n)
 
 -- words of equal bytes are equal
 same-word : (s t : List ℕ) (i j : ℕ) → ((d : ℕ) → d < 8 → getD s (i + d) 0 ≡ getD t (j + d) 0) → wordAt s i ≡ wordAt t j

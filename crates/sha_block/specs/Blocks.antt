@@ -2,7 +2,7 @@
 use Prim.Native.Nat.{ℕ, zero, suc, _+_, _*_}
 use mathlib.Core.List.{List, [], _∷_, _++_}
 use lib.ListN.{getD}
-use Rattle.sha_block.specs.Rounds.{turns, nextHash}
+use Rattle.sha_block.specs.Rounds.{turns, variables, nextHash}
 use Rattle.sha_block.specs.Schedule.{at, schedule}
 use Rattle.sha_block.specs.declared.state.State.{State}
 
@@ -27,3 +27,16 @@ blockOf k h m = nextHash h (turns (at k) (at (schedule 64 m)) 80 h)
 abbrev pub hashed : List ℕ → State → List ℕ → ℕ → State
 hashed k h p zero = h
 hashed k h p (suc n) = blockOf k (hashed k h p n) (blockWords p (n * 128) 16)
+
+-- a hash value as the words H_0 to H_7 that a caller lends
+abbrev pub hashWords : State → List ℕ
+hashWords h = h .a ∷ h .b ∷ h .c ∷ h .d ∷ h .e ∷ h .f ∷ h .g ∷ h .h ∷ []
+
+-- the hash value of such words
+abbrev pub hashValue : List ℕ → State
+hashValue h = variables (at h 0) (at h 1) (at h 2) (at h 3) (at h 4) (at h 5) (at h 6) (at h 7)
+
+-- `hashed` over lent words
+abbrev pub absorbed : List ℕ → List ℕ → List ℕ → ℕ → List ℕ
+absorbed k h p zero = h
+absorbed k h p (suc n) = hashWords (blockOf k (hashValue (absorbed k h p n)) (blockWords p (n * 128) 16))

@@ -1,7 +1,7 @@
 -- FIPS 180-4, section 6.4.2, step 1: the message schedule W_0, W_1, .. of a block. Assumes nothing.
 use Prim.Native.Nat.{ℕ, zero, suc, _+_, _-_, _%_, _^_}
 use mathlib.Core.List.{List, [], _∷_, _++_}
-use lib.ListN.{length, getD}
+use lib.ListN.{length, getD, set}
 use Rattle.sha_block.specs.Words.{sigma0, sigma1}
 
 -- the word at an index of a list
@@ -20,3 +20,16 @@ nextWord ws = nextOf (at ws (length ws - 2)) (at ws (length ws - 7)) (at ws (len
 abbrev pub schedule : ℕ → List ℕ → List ℕ
 schedule zero m = m
 schedule (suc n) m = schedule n m ++ (nextWord (schedule n m) ∷ [])
+
+-- The schedule in a ring w of sixteen words, W_j in place j mod 16: what its place i takes up next, W_(t+i) of the four words of W_(t-16+i) to W_(t-1+i), where t is a multiple of 16
+unfoldable pub ringNext : List ℕ → ℕ → ℕ
+ringNext w i = nextOf (at w ((i + 14) % 16)) (at w ((i + 9) % 16)) (at w ((i + 1) % 16)) (at w i)
+
+-- the ring after its places 0 to n - 1 have taken up their next words
+abbrev pub ringAfter : ℕ → List ℕ → List ℕ
+ringAfter zero w = w
+ringAfter (suc n) w = set (ringAfter n w) n (ringNext (ringAfter n w) n)
+
+-- the word that the place j takes up after those before it
+abbrev pub ringWord : List ℕ → ℕ → ℕ
+ringWord w j = ringNext (ringAfter j w) j
