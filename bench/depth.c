@@ -1,7 +1,9 @@
 /*
  * How deep each function of the archive goes into the stack: it is called on a
  * stack of its own that was painted before, and what is painted no more is
- * counted, the call's own return address and memcpy's share among it.
+ * counted, the call's own return address and memcpy's share among it. What the
+ * caller takes, stack arguments included, is measured by the same call of a
+ * function that returns at once, and does not count.
  */
 #define _GNU_SOURCE
 #include "waggleloft.h"
@@ -16,6 +18,14 @@
 static _Alignas(64) unsigned char stack[STACK];
 static ucontext_t caller, callee;
 static void (*called)(void);
+
+/* Returns at once, whatever it is called with. */
+void at_once(void);
+__asm__(".text\nat_once: ret\n");
+
+/* The function of the archive that is measured, or at_once, called as what it is. */
+static void (*measured)(void);
+#define CALL(function) ((__typeof__(&function))measured)
 
 static uint32_t image[WAGGLELOFT_IMAGE_WORDS], work[WAGGLELOFT_WORK_WORDS], outcome;
 static uint8_t digest[48], secret[48], request[196], handoff[2048], buffer[WAGGLELOFT_ANSWER_LONGEST], message[65535];
@@ -39,22 +49,28 @@ static size_t touched(void (*function)(void))
     return sizeof stack - clean;
 }
 
-static void nothing(void) {}
-static void cold_boot(void) { waggleloft_open_cold_boot(image, WAGGLELOFT_IMAGE_WORDS, digest, 48, secret, 48, work, WAGGLELOFT_WORK_WORDS, &outcome); }
-static void update_boot(void) { waggleloft_open_update_boot(image, WAGGLELOFT_IMAGE_WORDS, digest, 48, secret, 48, true, work, WAGGLELOFT_WORK_WORDS, &outcome); }
-static void stash(void) { waggleloft_open_request(image, WAGGLELOFT_IMAGE_WORDS, WAGGLELOFT_STASH_MEASUREMENT, request, 60, 1, handoff, 2048, true, work, WAGGLELOFT_WORK_WORDS); }
-static void identity_key(void) { waggleloft_open_request(image, WAGGLELOFT_IMAGE_WORDS, WAGGLELOFT_IDENTITY_KEY, request, 4, 1, handoff, 2048, true, work, WAGGLELOFT_WORK_WORDS); }
-static void store(void) { waggleloft_store(work, WAGGLELOFT_WORK_WORDS, image, WAGGLELOFT_IMAGE_WORDS); }
-static void left(void) { waggleloft_left(work, WAGGLELOFT_WORK_WORDS); }
-static void answer(void) { waggleloft_answer(work, WAGGLELOFT_WORK_WORDS, buffer, sizeof buffer, &written); }
-static void sha384(void) { waggleloft_sha384(message, sizeof message, buffer, sizeof buffer); }
-static void checksum(void) { waggleloft_checksum(1, message, sizeof message); }
-
-static size_t base;
+static void cold_boot(void) { CALL(waggleloft_open_cold_boot)(image, WAGGLELOFT_IMAGE_WORDS, digest, 48, secret, 48, work, WAGGLELOFT_WORK_WORDS, &outcome); }
+static void update_boot(void) { CALL(waggleloft_open_update_boot)(image, WAGGLELOFT_IMAGE_WORDS, digest, 48, secret, 48, true, work, WAGGLELOFT_WORK_WORDS, &outcome); }
+static void stash(void) { CALL(waggleloft_open_request)(image, WAGGLELOFT_IMAGE_WORDS, WAGGLELOFT_STASH_MEASUREMENT, request, 60, 1, handoff, 2048, true, work, WAGGLELOFT_WORK_WORDS); }
+static void identity_key(void) { CALL(waggleloft_open_request)(image, WAGGLELOFT_IMAGE_WORDS, WAGGLELOFT_IDENTITY_KEY, request, 4, 1, handoff, 2048, true, work, WAGGLELOFT_WORK_WORDS); }
+static void store(void) { CALL(waggleloft_store)(work, WAGGLELOFT_WORK_WORDS, image, WAGGLELOFT_IMAGE_WORDS); }
+static void left(void) { CALL(waggleloft_left)(work, WAGGLELOFT_WORK_WORDS); }
+static void answer(void) { CALL(waggleloft_answer)(work, WAGGLELOFT_WORK_WORDS, buffer, sizeof buffer, &written); }
+static void sha384(void) { CALL(waggleloft_sha384)(message, sizeof message, buffer, sizeof buffer); }
+static void checksum(void) { CALL(waggleloft_checksum)(1, message, sizeof message); }
 
 static void show(const char *name, size_t deepest) { printf("%6zu  %s\n", deepest, name); }
 
-static size_t depth(void (*function)(void)) { return touched(function) - base; }
+/* The depth of a function in a call, its return address included. */
+static size_t depth_of(void (*function)(void), void (*caller_of)(void))
+{
+    size_t without;
+    measured = at_once;
+    without = touched(caller_of) - sizeof(void *);
+    measured = function;
+    return touched(caller_of) - without;
+}
+#define DEPTH(function, caller_of) depth_of((void (*)(void))function, caller_of)
 
 static void set_checksum(uint32_t code, size_t len)
 {
@@ -67,7 +83,7 @@ static size_t deepest_store(void)
 {
     size_t deepest = 0;
     while (waggleloft_left(work, WAGGLELOFT_WORK_WORDS) > 0) {
-        size_t one = depth(store);
+        size_t one = DEPTH(waggleloft_store, store);
         deepest = one > deepest ? one : deepest;
     }
     return deepest;
@@ -80,19 +96,18 @@ int main(void)
     memset(secret, 2, sizeof secret);
     memcpy(handoff, &marker, sizeof marker);
     handoff[4] = 1;
-    base = touched(nothing);
-    show("waggleloft_open_cold_boot", depth(cold_boot));
+    show("waggleloft_open_cold_boot", DEPTH(waggleloft_open_cold_boot, cold_boot));
     show("waggleloft_store, of a cold boot", deepest_store());
     set_checksum(WAGGLELOFT_STASH_MEASUREMENT, 60);
-    show("waggleloft_open_request, a stash", depth(stash));
+    show("waggleloft_open_request, a stash", DEPTH(waggleloft_open_request, stash));
     show("waggleloft_store, of a stash", deepest_store());
-    show("waggleloft_open_update_boot", depth(update_boot));
+    show("waggleloft_open_update_boot", DEPTH(waggleloft_open_update_boot, update_boot));
     show("waggleloft_store, of an update", deepest_store());
     set_checksum(WAGGLELOFT_IDENTITY_KEY, 4);
-    show("waggleloft_open_request, the identity key", depth(identity_key));
-    show("waggleloft_answer, of 104 bytes", depth(answer));
-    show("waggleloft_left", depth(left));
-    show("waggleloft_sha384, of 65,535 bytes", depth(sha384));
-    show("waggleloft_checksum", depth(checksum));
+    show("waggleloft_open_request, the identity key", DEPTH(waggleloft_open_request, identity_key));
+    show("waggleloft_answer, of 104 bytes", DEPTH(waggleloft_answer, answer));
+    show("waggleloft_left", DEPTH(waggleloft_left, left));
+    show("waggleloft_sha384, of 65,535 bytes", DEPTH(waggleloft_sha384, sha384));
+    show("waggleloft_checksum", DEPTH(waggleloft_checksum, checksum));
     return written == WAGGLELOFT_ANSWER_LONGEST ? 0 : 1;
 }

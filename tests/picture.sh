@@ -163,11 +163,18 @@ case ${1:-} in
 --write | --check) ;;
 *) fail 2 "there is no '$1' (tests/picture.sh --help)" ;;
 esac
+# What cannot be compared or written is told before the engine runs.
+if [ "$1" = --check ] && [ ! -r "$picture" ]; then
+    echo "$picture cannot be read"
+    echo "0 passed, 1 failed"
+    exit 1
+fi
+if [ "$1" = --write ] && ! touch "$picture" 2>/dev/null; then fail 1 "$picture cannot be written"; fi
 "$root/run" --build driver || exit 2
 driver=$root/target/bin/driver
 made=$(make) || exit 1
 if [ "$1" = --write ]; then
-    { echo "$made" >"$picture"; } 2>/dev/null || fail 1 "$picture cannot be written"
+    echo "$made" >"$picture"
 elif diff <(echo "$made") "$picture"; then
     echo "1 passed, 0 failed"
 else

@@ -3,30 +3,36 @@
 //! All run in this process, on the same buffers, and take turns: a batch is
 //! made in many short turns, so that a machine that slows down for a while slows
 //! all alike. Printed are the time of the whole batch and the best turn's time,
-//! scaled to a batch.
+//! scaled to a batch. The last line is 'N passed, M failed': a batch with a bound
+//! may take at most that many times as long as the second implementation's.
 
 mod openssl;
 
 use std::hint::black_box;
+use std::process::ExitCode;
 use std::time::{Duration, Instant};
 
 /// The turns that each takes to make its batch.
 const TURNS: usize = 100;
 
-/// A batch: how many digests of a message of how many bytes.
+/// A batch: how many digests of a message of how many bytes, and the ratio to the
+/// second implementation's time that the whole batch must not exceed.
 struct Batch {
     digests: usize,
     bytes: usize,
+    bound: Option<f64>,
 }
 
 const BATCHES: [Batch; 2] = [
     Batch {
         digests: 1_000,
         bytes: 64_000,
+        bound: Some(2.0),
     },
     Batch {
         digests: 100_000,
         bytes: 96,
+        bound: None,
     },
 ];
 
@@ -37,17 +43,39 @@ struct Contender {
     hash: Hash,
 }
 
-fn main() {
+fn main() -> ExitCode {
     let contenders = contenders();
+    let (mut passed, mut failed) = (0, 0);
     print_heading(&contenders);
     for batch in &BATCHES {
         let message: Vec<u8> = (0..batch.bytes).map(|i| (i * 7 + i / 251) as u8).collect();
         check_agreement(&contenders, &message);
-        print_times(batch, &contenders, &times(batch, &contenders, &message));
+        let times = times(batch, &contenders, &message);
+        print_times(batch, &contenders, &times);
+        match batch.bound {
+            Some(bound) if whole_ratio(&times) > bound => {
+                println!("FAILED: more than {bound} times as long as the second implementation");
+                failed += 1;
+            }
+            Some(_) => passed += 1,
+            None => {}
+        }
+    }
+    println!("{passed} passed, {failed} failed");
+    if failed == 0 {
+        ExitCode::SUCCESS
+    } else {
+        ExitCode::FAILURE
     }
 }
 
-/// The core first, then what it is compared with.
+/// The whole batch's time, ours divided by the second implementation's.
+fn whole_ratio(times: &[Vec<Duration>]) -> f64 {
+    let whole = |who: usize| times[who].iter().sum::<Duration>().as_secs_f64();
+    whole(0) / whole(1)
+}
+
+/// The core first, then what it is compared with: the second implementation first.
 fn contenders() -> Vec<Contender> {
     let mut contenders = vec![
         Contender {
