@@ -28,10 +28,10 @@
  * expects the stack aligned to 16 bytes at a call, and uses the 128 bytes below
  * the stack pointer (the red zone): an interrupt that comes on the same stack
  * must leave them alone, and must keep the SSE registers. The deepest stack is
- * below 3,500 bytes, of a request's opening; 40 bytes of a store (bench/depth
- * measures each). No function allocates, keeps state, has a global variable,
- * waits or throws, so several threads may call them at the same time on
- * different buffers.
+ * below 3,000 bytes, of a request's opening; below 1,500 of the digest, and 40
+ * bytes of a store (bench/stack works out each). No function allocates, keeps
+ * state, has a global variable, waits or throws, so several threads may call
+ * them at the same time on different buffers.
  */
 #ifndef WAGGLELOFT_H
 #define WAGGLELOFT_H
