@@ -44,25 +44,56 @@ module _ (f g : ℕ → ℕ → ℕ → ℕ)
       (f-half x y z ∙ same k (x / 2) (y / 2) (z / 2) (omega arith) (omega arith) (omega arith) ∙ sym (g-half x y z))
       (f-odd x y z ∙ bit (x % 2) (y % 2) (z % 2) (omega arith) (omega arith) (omega arith) ∙ sym (g-odd x y z))
 
+-- A part of a number, its half or its last bit, goes through ⊕ and ∧, and so through what is made of them.
+module _ (part : ℕ → ℕ) (px : (x y : ℕ) → part (bitXor x y) ≡ bitXor (part x) (part y)) (pa : (x y : ℕ) → part (bitAnd x y) ≡ bitAnd (part x) (part y)) where
+  left-part : (x y z : ℕ) → part (bitXor (bitXor x y) z) ≡ bitXor (bitXor (part x) (part y)) (part z)
+  left-part x y z = px (bitXor x y) z ∙ ap (λ (t : ℕ). bitXor t (part z)) (px x y)
+
+  right-part : (x y z : ℕ) → part (bitXor x (bitXor y z)) ≡ bitXor (part x) (bitXor (part y) (part z))
+  right-part x y z = px x (bitXor y z) ∙ ap (bitXor (part x)) (px y z)
+
+  median-part : (x y z : ℕ) → part (bitXor (bitAnd (bitXor x y) (bitXor y z)) y)
+      ≡ bitXor (bitAnd (bitXor (part x) (part y)) (bitXor (part y) (part z))) (part y)
+  median-part x y z =
+      px (bitAnd (bitXor x y) (bitXor y z)) y
+      ∙ ap (λ (t : ℕ). bitXor t (part y)) (pa (bitXor x y) (bitXor y z) ∙ ap₂ bitAnd (px x y) (px y z))
+
+  majority-part : (x y z : ℕ) → part (bitXor (bitXor (bitAnd x y) (bitAnd x z)) (bitAnd y z))
+      ≡ bitXor (bitXor (bitAnd (part x) (part y)) (bitAnd (part x) (part z))) (bitAnd (part y) (part z))
+  majority-part x y z =
+      px (bitXor (bitAnd x y) (bitAnd x z)) (bitAnd y z)
+      ∙ ap₂ bitXor (px (bitAnd x y) (bitAnd x z) ∙ ap₂ bitXor (pa x y) (pa x z)) (pa y z)
+
+abbrev half : ℕ → ℕ
+half x = x / 2
+
+half-xor : (x y : ℕ) → half (bitXor x y) ≡ bitXor (half x) (half y)
+half-xor x y = xor-shr x y 1
+
+half-and : (x y : ℕ) → half (bitAnd x y) ≡ bitAnd (half x) (half y)
+half-and x y = and-shr x y 1
+
+abbrev odd : ℕ → ℕ
+odd x = x % 2
+
+odd-xor : (x y : ℕ) → odd (bitXor x y) ≡ bitXor (odd x) (odd y)
+odd-xor x y = xor-mod x y 1
+
+odd-and : (x y : ℕ) → odd (bitAnd x y) ≡ bitAnd (odd x) (odd y)
+odd-and x y = and-mod x y 1
+
 -- (x ⊕ y) ⊕ z is x ⊕ (y ⊕ z)
 pub xor-assoc : (x y z : ℕ) → x < 2 ^ 64 → y < 2 ^ 64 → z < 2 ^ 64 → bitXor (bitXor x y) z ≡ bitXor x (bitXor y z)
-xor-assoc x y z hx hy hz =
-    same (λ x y z. bitXor (bitXor x y) z) (λ x y z. bitXor x (bitXor y z))
-    (λ x y z. xor-shr (bitXor x y) z 1 ∙ ap (λ (t : ℕ). bitXor t (z / 2)) (xor-shr x y 1))
-    (λ x y z. xor-mod (bitXor x y) z 1 ∙ ap (λ (t : ℕ). bitXor t (z % 2)) (xor-mod x y 1))
-    (λ x y z. xor-shr x (bitXor y z) 1 ∙ ap (bitXor (x / 2)) (xor-shr y z 1))
-    (λ x y z. xor-mod x (bitXor y z) 1 ∙ ap (bitXor (x % 2)) (xor-mod y z 1))
-    (eight (λ a b c. bitXor (bitXor a b) c ≡ bitXor a (bitXor b c)) refl refl refl refl refl refl refl refl)
-    64 x y z hx hy hz
+xor-assoc =
+    same (λ x y z. bitXor (bitXor x y) z) (λ x y z. bitXor x (bitXor y z)) (left-part half half-xor half-and) (left-part odd odd-xor odd-and)
+    (right-part half half-xor half-and) (right-part odd odd-xor odd-and)
+    (eight (λ a b c. bitXor (bitXor a b) c ≡ bitXor a (bitXor b c)) refl refl refl refl refl refl refl refl) 64
 
 -- Maj in four operations, of which two rounds share one: ((x ⊕ y) ∧ (y ⊕ z)) ⊕ y
 pub median : (x y z : ℕ) → x < 2 ^ 64 → y < 2 ^ 64 → z < 2 ^ 64
     → bitXor (bitAnd (bitXor x y) (bitXor y z)) y ≡ bitXor (bitXor (bitAnd x y) (bitAnd x z)) (bitAnd y z)
-median x y z hx hy hz =
+median =
     same (λ x y z. bitXor (bitAnd (bitXor x y) (bitXor y z)) y) (λ x y z. bitXor (bitXor (bitAnd x y) (bitAnd x z)) (bitAnd y z))
-    (λ x y z. xor-shr (bitAnd (bitXor x y) (bitXor y z)) y 1 ∙ ap (λ (t : ℕ). bitXor t (y / 2)) (and-shr (bitXor x y) (bitXor y z) 1 ∙ ap₂ bitAnd (xor-shr x y 1) (xor-shr y z 1)))
-    (λ x y z. xor-mod (bitAnd (bitXor x y) (bitXor y z)) y 1 ∙ ap (λ (t : ℕ). bitXor t (y % 2)) (and-mod (bitXor x y) (bitXor y z) 1 ∙ ap₂ bitAnd (xor-mod x y 1) (xor-mod y z 1)))
-    (λ x y z. xor-shr (bitXor (bitAnd x y) (bitAnd x z)) (bitAnd y z) 1 ∙ ap₂ bitXor (xor-shr (bitAnd x y) (bitAnd x z) 1 ∙ ap₂ bitXor (and-shr x y 1) (and-shr x z 1)) (and-shr y z 1))
-    (λ x y z. xor-mod (bitXor (bitAnd x y) (bitAnd x z)) (bitAnd y z) 1 ∙ ap₂ bitXor (xor-mod (bitAnd x y) (bitAnd x z) 1 ∙ ap₂ bitXor (and-mod x y 1) (and-mod x z 1)) (and-mod y z 1))
-    (eight (λ a b c. bitXor (bitAnd (bitXor a b) (bitXor b c)) b ≡ bitXor (bitXor (bitAnd a b) (bitAnd a c)) (bitAnd b c)) refl refl refl refl refl refl refl refl)
-    64 x y z hx hy hz
+    (median-part half half-xor half-and) (median-part odd odd-xor odd-and) (majority-part half half-xor half-and) (majority-part odd odd-xor odd-and)
+    (eight (λ a b c. bitXor (bitAnd (bitXor a b) (bitXor b c)) b ≡ bitXor (bitXor (bitAnd a b) (bitAnd a c)) (bitAnd b c))
+    refl refl refl refl refl refl refl refl) 64

@@ -21,11 +21,13 @@ length-words s at (suc n) = length-append (blockWords s at n) (wordAt s (at + n 
 
 -- the word i of the n words
 module _ (s : List ℕ) (at i : ℕ) where
-  last : (n : ℕ) (b : Bool) → eqb i n ≡ b → i < suc n → (i < n → getD (blockWords s at n) i 0 ≡ wordAt s (at + i * 8)) → getD (blockWords s at (suc n)) i 0 ≡ wordAt s (at + i * 8)
+  last : (n : ℕ) (b : Bool) → eqb i n ≡ b → i < suc n → (i < n → getD (blockWords s at n) i 0 ≡ wordAt s (at + i * 8))
+      → getD (blockWords s at (suc n)) i 0 ≡ wordAt s (at + i * 8)
   last n true q h r =
       let e : i ≡ n = eqb-true i n q in
       let l : i ≡ length (blockWords s at n) = e ∙ sym (length-words s at n) in
-      ap (λ (x : ℕ). getD (blockWords s at (suc n)) x 0) l ∙ getD-append-seam (blockWords s at n) (wordAt s (at + n * 8)) [] 0 ∙ ap (λ (x : ℕ). wordAt s (at + x * 8)) (sym e)
+      ap (λ (x : ℕ). getD (blockWords s at (suc n)) x 0) l ∙ getD-append-seam (blockWords s at n) (wordAt s (at + n * 8)) [] 0
+      ∙ ap (λ (x : ℕ). wordAt s (at + x * 8)) (sym e)
   last n false q h r =
       let other : i ≡ n → ⊥ = eqb-false i n q in
       let lt : i < n = omega arith in

@@ -60,7 +60,8 @@ rot-xor : (n k a b : ℕ) → a < 2 ^ (k + n) → b < 2 ^ (k + n) → rot n k (b
 rot-xor n k a b ha hb =
     value n k (bitXor a b) (xor-lt (k + n) a b ha hb) ∙ xor-turned n k a b ha hb ∙ sym (ap₂ bitXor (value n k a ha) (value n k b hb))
 
-rot-rot : (m n k x : ℕ) → x < 2 ^ ((k + n) + m) → turned m (k + n) x < 2 ^ ((m + k) + n) → x < 2 ^ (k + (n + m)) → rot n (m + k) (rot m (k + n) x) ≡ rot (n + m) k x
+rot-rot : (m n k x : ℕ) → x < 2 ^ ((k + n) + m) → turned m (k + n) x < 2 ^ ((m + k) + n) → x < 2 ^ (k + (n + m))
+    → rot n (m + k) (rot m (k + n) x) ≡ rot (n + m) k x
 rot-rot m n k x h low h′ =
     ap (rot n (m + k)) (value m (k + n) x h) ∙ value n (m + k) (turned m (k + n) x) low ∙ turned-turned m n k x ∙ sym (value (n + m) k x h′)
 
@@ -94,10 +95,12 @@ nested0 =
 pub nested1 : (x : ℕ) → x < 2 ^ 64 → rotr 14 (bitXor x (rotr 4 (bitXor x (rotr 23 x)))) ≡ bitXor (bitXor (rotr 14 x) (rotr 18 x)) (rotr 41 x)
 nested1 =
     nested (rotr 23) (rotr 4) (rotr 14) (rotr 27) (rotr 18) (rotr 41) (rot-lt 23 41) (rot-lt 4 60) (rot-lt 14 50) (rot-xor 4 60) (rot-xor 14 50)
-    (λ x h. rot-rot 23 4 37 x h (turned-lt 23 41 x h) h) (λ x h. rot-rot 4 14 46 x h (turned-lt 4 60 x h) h) (λ x h. rot-rot 27 14 23 x h (turned-lt 27 37 x h) h)
+    (λ x h. rot-rot 23 4 37 x h (turned-lt 23 41 x h) h) (λ x h. rot-rot 4 14 46 x h (turned-lt 4 60 x h) h)
+    (λ x h. rot-rot 27 14 23 x h (turned-lt 27 37 x h) h)
 
 -- Two rotations of σ0 and of σ1 as one of a sum: turned by n, and by n + m
-paired : (m n k x : ℕ) → x < 2 ^ ((k + n) + m) → turned m (k + n) x < 2 ^ ((m + k) + n) → x < 2 ^ (k + (n + m)) → x < 2 ^ ((m + k) + n) → rot m (k + n) x < 2 ^ ((m + k) + n)
+paired : (m n k x : ℕ) → x < 2 ^ ((k + n) + m) → turned m (k + n) x < 2 ^ ((m + k) + n) → x < 2 ^ (k + (n + m)) → x < 2 ^ ((m + k) + n)
+    → rot m (k + n) x < 2 ^ ((m + k) + n)
     → rot n (m + k) (bitXor x (rot m (k + n) x)) ≡ bitXor (rot n (m + k) x) (rot (n + m) k x)
 paired m n k x h low h′ h″ l = rot-xor n (m + k) x (rot m (k + n) x) h″ l ∙ ap (bitXor (rot n (m + k) x)) (rot-rot m n k x h low h′)
 

@@ -21,7 +21,8 @@ abbrev pub schedule : ℕ → List ℕ → List ℕ
 schedule zero m = m
 schedule (suc n) m = schedule n m ++ (nextWord (schedule n m) ∷ [])
 
--- The schedule in a ring of sixteen words, W_j in place j mod 16. Where w holds the sixteen words before W_(t+i), t a multiple of 16, this is W_(t+i), which its place i takes up.
+-- The schedule in a ring of sixteen words, W_j in place j mod 16. Where w holds the sixteen words before W_(t+i), t a multiple of 16, this is W_(t+i), and
+-- place i takes it up.
 unfoldable pub ringNext : List ℕ → ℕ → ℕ
 ringNext w i = nextOf (at w ((i + 14) % 16)) (at w ((i + 9) % 16)) (at w ((i + 1) % 16)) (at w i)
 

@@ -1,3 +1,4 @@
+-- `sha_block::blocks::block` meets its contract: sixteen rounds and then sixty-four are the eighty, and the sum ends them. Assumes nothing.
 use mathlib.Core.Path.{_≡_, sym, ap, ap₂, _∙_}
 use mathlib.Core.List.{List}
 use Prim.Native.Nat.{ℕ, _+_}

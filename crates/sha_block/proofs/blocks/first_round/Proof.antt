@@ -1,3 +1,4 @@
+-- `sha_block::blocks::first_round` meets its contract: the block's word t goes into place t and into the round. Assumes nothing.
 use mathlib.Core.Path.{ap, _∙_}
 use Prim.Native.Nat.{_+_, _*_}
 use denote.Ref.{now}
@@ -7,44 +8,31 @@ use Rattle.sha_block.specs.Schedule.{at}
 use borrow.Author.Needs.{needs}
 use Rattle.sha_block.proofs.blocks.first_round.Statement.{statement}
 use Rattle.sha_block.proofs.blocks.first_round.Tie as tie
-use Rattle.sha_block.proofs.blocks.first_round.Reads as reads
-use Rattle.sha_block.proofs.blocks.first_round.Lts as lts
-use Rattle.sha_block.proofs.blocks.word_at.Reads as word-at-reads
-use Rattle.sha_block.proofs.rounds.round.Reads as round-reads
 
--- src/blocks.rt:52:35
 mul-word-at : tie.Need-mul-word-at
 mul-word-at c = search needs
 
--- src/blocks.rt:52:28
 add-word-at : tie.Need-add-word-at
 add-word-at c = search needs
 
--- src/blocks.rt:52:9
 word-at-requires : tie.Need-word-at-requires
 word-at-requires c κs = search needs
 
--- src/blocks.rt:53:5
 mul-w : tie.Need-mul-w
 mul-w c = search needs
 
--- src/blocks.rt:53:5
 element-write-w : tie.Need-element-write-w
 element-write-w c = search needs
 
--- src/blocks.rt:54:14
 mul-round : tie.Need-mul-round
 mul-round c = search needs
 
--- src/blocks.rt:54:14
 element-copy-out-round : tie.Need-element-copy-out-round
 element-copy-out-round c = search needs
 
--- src/blocks.rt:54:5
 round-requires : tie.Need-round-requires
 round-requires c κs = search needs
 
--- src/blocks.rt:47:1
 returns : tie.Need-returns
 returns c = let g = c .before .before .before .before in
     let x = c .before .before .word-at .ensures in

@@ -1,3 +1,4 @@
+-- `sha_block::blocks::ring_round` meets its contract: the word that place i takes up is the round's. Assumes nothing.
 use mathlib.Core.Path.{ap, _∙_}
 use Prim.Native.Nat.{_+_}
 use denote.Ref.{now}
@@ -7,84 +8,61 @@ use Rattle.sha_block.specs.Schedule.{at, ringNext}
 use borrow.Author.Needs.{needs}
 use Rattle.sha_block.proofs.blocks.ring_round.Statement.{statement}
 use Rattle.sha_block.proofs.blocks.ring_round.Tie as tie
-use Rattle.sha_block.proofs.blocks.ring_round.Reads as reads
-use Rattle.sha_block.proofs.blocks.ring_round.Lts as lts
-use Rattle.sha_block.proofs.rounds.next.Reads as next-reads
-use Rattle.sha_block.proofs.rounds.round.Reads as round-reads
 
--- src/blocks.rt:87:21
 add-next : tie.Need-add-next
 add-next c = search needs
 
--- src/blocks.rt:87:18
 mul-next : tie.Need-mul-next
 mul-next c = search needs
 
--- src/blocks.rt:87:18
 element-copy-out-next : tie.Need-element-copy-out-next
 element-copy-out-next c = search needs
 
--- src/blocks.rt:87:39
 add-next-2 : tie.Need-add-next-2
 add-next-2 c = search needs
 
--- src/blocks.rt:87:36
 mul-next-2 : tie.Need-mul-next-2
 mul-next-2 c = search needs
 
--- src/blocks.rt:87:36
 element-copy-out-next-2 : tie.Need-element-copy-out-next-2
 element-copy-out-next-2 c = search needs
 
--- src/blocks.rt:87:56
 add-next-3 : tie.Need-add-next-3
 add-next-3 c = search needs
 
--- src/blocks.rt:87:53
 mul-next-3 : tie.Need-mul-next-3
 mul-next-3 c = search needs
 
--- src/blocks.rt:87:53
 element-copy-out-next-3 : tie.Need-element-copy-out-next-3
 element-copy-out-next-3 c = search needs
 
--- src/blocks.rt:87:70
 mul-next-4 : tie.Need-mul-next-4
 mul-next-4 c = search needs
 
--- src/blocks.rt:87:70
 element-copy-out-next-4 : tie.Need-element-copy-out-next-4
 element-copy-out-next-4 c = search needs
 
--- src/blocks.rt:87:9
 next-requires : tie.Need-next-requires
 next-requires c κs = search needs
 
--- src/blocks.rt:88:5
 mul-w : tie.Need-mul-w
 mul-w c = search needs
 
--- src/blocks.rt:88:5
 element-write-w : tie.Need-element-write-w
 element-write-w c = search needs
 
--- src/blocks.rt:89:16
 add-round : tie.Need-add-round
 add-round c = search needs
 
--- src/blocks.rt:89:14
 mul-round : tie.Need-mul-round
 mul-round c = search needs
 
--- src/blocks.rt:89:14
 element-copy-out-round : tie.Need-element-copy-out-round
 element-copy-out-round c = search needs
 
--- src/blocks.rt:89:5
 round-requires : tie.Need-round-requires
 round-requires c κs = search needs
 
--- src/blocks.rt:82:1
 returns : tie.Need-returns
 unfolding ringNext
 returns c = let a = c .before .before .before .before .before .before .before .args in
