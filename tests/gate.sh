@@ -114,9 +114,20 @@ expect 'a digest with little stack' '1 passed, 0 failed, status 0' "$(stacked "$
 expect 'a digest with too much stack' '0 passed, 1 failed, status 1' "$(stacked "$(frame 1600)")"
 expect 'what a called function takes counts' '0 passed, 1 failed, status 1' \
     "$(stacked "void use(char *); static void deep(void) { char b[900]; use(b); } $(frame 900 'deep();')")"
-expect 'a digest that calls itself' '0 passed, 1 failed, status 1' "$(stacked "$(frame 100 'if (n) waggleloft_sha384(n - 1);')")"
-expect 'a digest that calls through a pointer' '0 passed, 1 failed, status 1' \
+expect 'a digest that calls itself' '1 passed, 1 failed, status 1' "$(stacked "$(frame 100 'if (n) waggleloft_sha384(n - 1);')")"
+expect 'a digest that calls through a pointer' '1 passed, 1 failed, status 1' \
     "$(stacked "extern void (*call)(void); $(frame 100 'call();')")"
-expect 'an archive without the digest' '0 passed, 1 failed, status 1' "$(stacked 'int other(void) { return 1; }')"
+expect 'an archive without the digest' '1 passed, 1 failed, status 1' "$(stacked 'int other(void) { return 1; }')"
+expect 'another function with too much stack' '1 passed, 1 failed, status 1' \
+    "$(stacked "$(frame 100) void other(void) { char b[3100]; use(b); }")"
+
+# ---- the digest's speed
+
+slow() {
+    local status=0
+    bench/speed 0.01 >"$work/log" 2>&1 || status=$?
+    echo "$(tail -n 1 "$work/log"), status $status"
+}
+expect 'a digest that takes longer than its bound' '0 passed, 1 failed, status 1' "$(slow)"
 
 conclude

@@ -169,7 +169,9 @@ if [ "$1" = --check ] && [ ! -r "$picture" ]; then
     echo "0 passed, 1 failed"
     exit 1
 fi
-if [ "$1" = --write ] && ! touch "$picture" 2>/dev/null; then fail 1 "$picture cannot be written"; fi
+if [ "$1" = --write ] && [ ! -w "$picture" ] && { [ -e "$picture" ] || [ ! -w "$(dirname "$picture")" ]; }; then
+    fail 1 "$picture cannot be written"
+fi
 "$root/run" --build driver || exit 2
 driver=$root/target/bin/driver
 made=$(make) || exit 1
