@@ -19,6 +19,10 @@ le16 l at = getD l at 0 + 256 * getD l (at + 1) 0
 abbrev pub le32 : List ℕ → ℕ → ℕ
 le32 l at = getD l at 0 + 256 * getD l (at + 1) 0 + 65536 * getD l (at + 2) 0 + 16777216 * getD l (at + 3) 0
 
+-- and the eight bytes
+abbrev pub le64 : List ℕ → ℕ → ℕ
+le64 l at = le32 l at + 4294967296 * le32 l (at + 4)
+
 -- byte j of a word, the lowest first
 abbrev pub byteOf : ℕ → ℕ → ℕ
 byteOf w j = w / 256 ^ j % 256
@@ -26,6 +30,10 @@ byteOf w j = w / 256 ^ j % 256
 -- the four bytes of a number
 abbrev pub bytes4 : ℕ → List ℕ
 bytes4 w = byteOf w 0 ∷ byteOf w 1 ∷ byteOf w 2 ∷ byteOf w 3 ∷ []
+
+-- the eight bytes of a number
+abbrev pub bytes8 : ℕ → List ℕ
+bytes8 w = byteOf w 0 ∷ byteOf w 1 ∷ byteOf w 2 ∷ byteOf w 3 ∷ byteOf w 4 ∷ byteOf w 5 ∷ byteOf w 6 ∷ byteOf w 7 ∷ []
 
 -- "packed four to a word, first byte lowest": n words of the bytes from an index on
 unfoldable pub wordsAt : ℕ → List ℕ → ℕ → List ℕ

@@ -1,10 +1,12 @@
--- What document 01's digest entry answers, and "x extended by d". Assumes nothing.
-use Prim.Native.Nat.{ℕ}
+-- What document 01's digest entry answers, "x extended by d", and the digest from a hash value on. Assumes nothing.
+use Prim.Native.Nat.{ℕ, _/_, _%_}
 use mathlib.Core.Bool.{cond}
 use mathlib.Core.List.{List, _++_}
 use lib.Dec.{leb}
-use lib.ListN.{length, replicate}
-use Rattle.sha384.specs.Sha384.{sha384}
+use lib.ListN.{length, take, replicate}
+use Rattle.sha_block.specs.Blocks.{hashed, hashValue}
+use Rattle.sha384.specs.Constants.{constants}
+use Rattle.sha384.specs.Sha384.{padding, firstSix, sha384}
 use Rattle.sha384.specs.declared.digest.DigestResult.{DigestResult}
 
 -- "Digest of any byte string from 0 to 65,535 bytes"
@@ -21,3 +23,11 @@ digestOf m =
 -- "x extended by d" is SHA-384 of the 48 bytes x followed by the 48 bytes d
 unfoldable pub extended : List ℕ → List ℕ → List ℕ
 extended x d = sha384 (x ++ d)
+
+-- what ends the padded message of n bytes: the bytes past its whole blocks, which are the first of `last`, and the padding
+abbrev pub endOf : List ℕ → ℕ → List ℕ
+endOf last n = take (n % 128) last ++ padding n
+
+-- the digest of a message of n bytes whose whole blocks have made the hash value of the words h
+unfoldable pub concluded : List ℕ → List ℕ → ℕ → List ℕ
+concluded h last n = firstSix (hashed constants (hashValue h) (endOf last n) (length (endOf last n) / 128))

@@ -4,7 +4,7 @@ ghost use Rattle.sha_block.specs.Blocks.{hashWords};
 ghost use Rattle.sha384.specs.Constants.{initialOf};
 
 // K_0 to K_79. An indexed constant is written to the stack at each use: copy it once and lend it.
-pub(crate) const K: [u64; 80] = [
+pub const K: [u64; 80] = [
     0x428a2f98d728ae22,
     0x7137449123ef65cd,
     0xb5c0fbcfec4d3b2f,
@@ -88,7 +88,7 @@ pub(crate) const K: [u64; 80] = [
 ];
 
 // H_0 to H_7 before the first block.
-pub(crate) fn initial() -> [u64; 8]
+pub fn initial() -> [u64; 8]
     ensures { λ r. ⌜ r ≡ hashWords initialOf ⌝ }
 {
     [

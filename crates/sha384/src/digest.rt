@@ -1,11 +1,11 @@
-// The digest entry, and "x extended by d".
+// The digest entry, "x extended by d", and the digest from a hash value on.
 ghost use mathlib.Core.Path.{_≡_};
 ghost use Prim.Native.Nat.{_≤_};
 ghost use mathlib.Core.List.{_++_};
 ghost use lib.ListN.{length};
 ghost use Rattle.sha_block.specs.Blocks.{hashValue};
 ghost use Rattle.sha384.specs.Sha384.{firstSix, sha384};
-ghost use Rattle.sha384.specs.Entries.{longest, digestOf, extended};
+ghost use Rattle.sha384.specs.Entries.{longest, digestOf, extended, concluded};
 use crate::constants::K;
 use crate::constants::initial;
 use crate::padding::conclude;
@@ -62,6 +62,18 @@ pub fn digest(message: &[u8]) -> DigestResult
             bytes: [0u8; 48],
         }
     }
+}
+
+// The digest of a message of `total` bytes whose whole blocks have made the hash value `h`; the
+// bytes past them are the first of `last`.
+pub fn conclude_digest(h: [u64; 8], last: [u8; 128], total: u32) -> [u8; 48]
+    ensures { λ r. ⌜ r ≡ concluded h last total ⌝ }
+{
+    let k = K;
+    let mut words = h;
+    let n = (total % 128) as usize;
+    conclude(&k, &mut words, &last[..n], total as u64);
+    first_six(words)
 }
 
 // Two values of 48 bytes, one after the other.

@@ -20,6 +20,14 @@ pub absorbed-words : (k : List ℕ) (h : State) (p : List ℕ) (n : ℕ) → abs
 absorbed-words k h p zero = refl
 absorbed-words k h p (suc n) = ap (λ (l : List ℕ). hashWords (blockOf k (hashValue l) (blockWords p (n * 128) 16))) (absorbed-words k h p n)
 
+-- over any words, from one block on
+absorbed-value : (k h p : List ℕ) (n : ℕ) → hashValue (absorbed k h p n) ≡ hashed k (hashValue h) p n
+absorbed-value k h p zero = refl
+absorbed-value k h p (suc n) = ap (λ (s : State). blockOf k s (blockWords p (n * 128) 16)) (absorbed-value k h p n)
+
+pub absorbed-hashed : (k h p : List ℕ) (n : ℕ) → absorbed k h p (suc n) ≡ hashWords (hashed k (hashValue h) p (suc n))
+absorbed-hashed k h p n = ap hashWords (absorbed-value k h p (suc n))
+
 -- words of equal bytes are equal
 same-word : (s t : List ℕ) (i j : ℕ) → ((d : ℕ) → d < 8 → getD s (i + d) 0 ≡ getD t (j + d) 0) → wordAt s i ≡ wordAt t j
 unfolding wordAt

@@ -4,7 +4,7 @@ ghost use mathlib.Core.Path.{_≡_};
 ghost use Prim.Native.Nat.{_+_, _*_, _<_};
 ghost use lib.ListN.{getD};
 ghost use Rattle.layout.specs.Sizes.{registerWords};
-ghost use Rattle.layout.specs.Words.{le16, le32, wordsAt};
+ghost use Rattle.layout.specs.Words.{le16, le32, le64, wordsAt};
 use layout::REGISTER_WORDS;
 
 fn wide(b: u8) -> u32
@@ -60,6 +60,12 @@ fn word_of(s: &[u8], at: usize, k: usize) -> u32
         }
     }
     0
+}
+
+pub fn read64(s: &[u8], at: usize) -> u64
+    ensures { λ r. ⌜ r ≡ le64 (now (s .entry)) at ⌝ }
+{
+    (word_of(s, at, 0) as u64) + 4294967296 * (word_of(s, at, 1) as u64)
 }
 
 // The twelve words of the 48 bytes from an index on.

@@ -3,4 +3,5 @@
 // lends (`flat`).
 pub mod digest;
 pub mod openings;
+pub mod pieces;
 pub mod steps;

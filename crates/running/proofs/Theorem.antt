@@ -1,0 +1,68 @@
+-- The running digest over every list of steps: the state after the accepted bytes, and what the entries answer from it. Assumes nothing.
+use mathlib.Core.Path.{_≡_, refl, sym, ap, ap₂, _∙_}
+use mathlib.Core.Bool.{Bool, true, false, cond, not}
+use mathlib.Core.List.{List, [], _∷_, _++_}
+use Prim.Native.Nat.{ℕ, _+_, _≤_, _<_}
+use native.Mathlib.Omega.{arith}
+use borrow.Author.Tests.{ltb-true, ltb-false, eqb-true, eqb-false}
+use lib.Dec.{eqb, ltb}
+use lib.ListN.{length, length-append}
+use Rattle.sha384.specs.Constants.{constants}
+use Rattle.sha384.specs.Sha384.{sha384}
+use Rattle.sha384.specs.Entries.{longest}
+use Rattle.sha384.specs.declared.digest.DigestResult.{DigestResult}
+use Rattle.running.specs.Running.{longestTotal, begun, agrees, feedNumber, fedOf, feedResult, finishResult}
+use Rattle.running.specs.declared.Running.{Running}
+use Rattle.running.specs.declared.Fed.{Fed}
+use Rattle.running.specs.Steps.{Step, feed, finish, Result, fed, finished, results, numberAfter, doneAfter, told, Running-digest}
+use Rattle.running.proofs.States.{stateOf, begun-state, state-agrees, state-fed, state-concluded}
+
+number-same : (done m : List ℕ) → length done ≤ longestTotal → feedNumber (stateOf done) m ≡ numberAfter done m
+unfolding feedNumber numberAfter stateOf
+number-same done m h = rw (state-agrees done h)
+
+-- an accepted slice leaves the total within its bound
+within : (done m : List ℕ) (b c : Bool) → ltb longest (length m) ≡ b → ltb longestTotal (length done + length m) ≡ c → length done ≤ longestTotal
+    → length (cond (eqb (cond b 10 (cond c 16 0)) 0) (done ++ m) done) ≤ longestTotal
+within done m true c p q h = h
+within done m false true p q h = h
+within done m false false p q h = omega (arith, ltb-false longestTotal (length done + length m) q, length-append done m)
+
+-- what a feed leaves: the state after the bytes accepted
+fed-state : (done m : List ℕ) (n : ℕ) → feedNumber (stateOf done) m ≡ n → feedResult (stateOf done) m .state ≡ stateOf (cond (eqb n 0) (done ++ m) done)
+unfolding feedResult
+fed-state done m n e = rw e (by-number (eqb n 0))
+  where
+    by-number : (b : Bool) → cond {A = Fed} b (record { number = 0; state = fedOf (stateOf done) m }) (record { number = n; state = stateOf done }) .state
+        ≡ stateOf (cond b (done ++ m) done)
+    by-number true = state-fed done m
+    by-number false = refl
+
+fed-number : (st : Running) (m : List ℕ) (n : ℕ) → feedNumber st m ≡ n → feedResult st m .number ≡ n
+unfolding feedResult
+fed-number st m n e = rw e (by-number (eqb n 0) refl)
+  where
+    by-number : (b : Bool) → eqb n 0 ≡ b → cond {A = Fed} b (record { number = 0; state = fedOf st m }) (record { number = n; state = st }) .number ≡ n
+    by-number true p = sym (eqb-true n 0 p)
+    by-number false p = refl
+
+finish-told : (done : List ℕ) → length done ≤ longestTotal → finishResult (stateOf done) ≡ record { number = 0; bytes = sha384 done }
+unfolding finishResult
+finish-told done h = rw (state-agrees done h) (ap (λ (b : List ℕ). record { number = 0; bytes = b }) (state-concluded done))
+
+from-state : (done : List ℕ) (steps : List Step) → length done ≤ longestTotal → results (stateOf done) steps ≡ told done steps
+unfolding numberAfter doneAfter
+from-state done [] h = refl
+from-state done (feed m ∷ steps) h =
+    let n = numberAfter done m in
+    let e : feedNumber (stateOf done) m ≡ n = number-same done m h in
+    let next = doneAfter done m in
+    let l : length next ≤ longestTotal = within done m (ltb longest (length m)) (ltb longestTotal (length done + length m)) refl refl h in
+    ap₂ (λ (x : ℕ) (rs : List Result). fed x ∷ rs) (fed-number (stateOf done) m n e)
+    (ap (λ (st : Running). results st steps) (fed-state done m n e) ∙ from-state next steps l)
+from-state done (finish ∷ steps) h =
+    ap₂ (λ (d : DigestResult) (rs : List Result). finished d ∷ rs) (finish-told done h) (from-state done steps h)
+
+pub running-digest : Running-digest
+unfolding Running-digest
+running-digest steps = ap (λ (st : Running). results st steps) begun-state ∙ from-state [] steps (omega arith)
