@@ -73,29 +73,31 @@ bytes-words n b h small = tab-is (λ k. byteOf (getD (wordsAt n b 0) (k / 4) 0) 
         ∙ byte q (i % 4) (omega arith)
         ∙ ap (λ (k : ℕ). getD b k 0) (omega arith)
 
+-- equal bytes make equal numbers
+pub same : {a b c d e f g h : ℕ} → a ≡ e → b ≡ f → c ≡ g → d ≡ h → a + 256 * b + 65536 * c + 16777216 * d ≡ e + 256 * f + 65536 * g + 16777216 * h
+same p q r t = omega arith
+
+digit : (x : ℕ) → x ≡ x % 256 + 256 * (x / 256)
+digit x = omega arith
+
+linear : (w p q r a b c : ℕ) → w ≡ a + 256 * p → p ≡ b + 256 * q → q ≡ c + 256 * r → a + 256 * b + 65536 * c + 16777216 * r ≡ w
+linear w p q r a b c e f g = omega arith
+
+-- a number below 2 ^ 32 from its four bytes
+pub joined : (w : ℕ) → w < 2 ^ 32 → byteOf w 0 + 256 * byteOf w 1 + 65536 * byteOf w 2 + 16777216 * byteOf w 3 ≡ w
+joined w l =
+    let p : w / 65536 ≡ w / 256 / 256 = sym (div-div-eq-div-mul w 256 256) in
+    let q : w / 16777216 ≡ w / 256 / 256 / 256 = sym (div-div-eq-div-mul w 65536 256) ∙ ap (λ (x : ℕ). x / 256) p in
+    let top : w / 16777216 % 256 ≡ w / 256 / 256 / 256 = omega (arith, q) in
+    let mid : w / 65536 % 256 ≡ w / 256 / 256 % 256 = ap (λ (x : ℕ). x % 256) p in
+    let low : w / 1 % 256 ≡ w % 256 = ap (λ (x : ℕ). x % 256) (div-one w) in
+    same low refl mid top ∙ linear _ _ _ _ _ _ _ (digit w) (digit (w / 256)) (digit (w / 256 / 256))
+
 -- from words to bytes and back
 pub words-bytes : (n : ℕ) (ws : List ℕ) → length ws ≡ n → ((i : ℕ) → getD ws i 0 < 2 ^ 32) → wordsAt n (bytesIn (4 * n) ws) 0 ≡ ws
 unfolding wordsAt
 words-bytes n ws h small = tab-is (λ k. le32 (bytesIn (4 * n) ws) (0 + 4 * k)) ws n h at
   where
-    same : {a b c d e f g h : ℕ} → a ≡ e → b ≡ f → c ≡ g → d ≡ h → a + 256 * b + 65536 * c + 16777216 * d ≡ e + 256 * f + 65536 * g + 16777216 * h
-    same p q r t = omega arith
-
-    digit : (x : ℕ) → x ≡ x % 256 + 256 * (x / 256)
-    digit x = omega arith
-
-    linear : (w p q r a b c : ℕ) → w ≡ a + 256 * p → p ≡ b + 256 * q → q ≡ c + 256 * r → a + 256 * b + 65536 * c + 16777216 * r ≡ w
-    linear w p q r a b c e f g = omega arith
-
-    joined : (w : ℕ) → w < 2 ^ 32 → byteOf w 0 + 256 * byteOf w 1 + 65536 * byteOf w 2 + 16777216 * byteOf w 3 ≡ w
-    joined w l =
-        let p : w / 65536 ≡ w / 256 / 256 = sym (div-div-eq-div-mul w 256 256) in
-        let q : w / 16777216 ≡ w / 256 / 256 / 256 = sym (div-div-eq-div-mul w 65536 256) ∙ ap (λ (x : ℕ). x / 256) p in
-        let top : w / 16777216 % 256 ≡ w / 256 / 256 / 256 = omega (arith, q) in
-        let mid : w / 65536 % 256 ≡ w / 256 / 256 % 256 = ap (λ (x : ℕ). x % 256) p in
-        let low : w / 1 % 256 ≡ w % 256 = ap (λ (x : ℕ). x % 256) (div-one w) in
-        same low refl mid top ∙ linear _ _ _ _ _ _ _ (digit w) (digit (w / 256)) (digit (w / 256 / 256))
-
     at : (i : ℕ) → i < n → le32 (bytesIn (4 * n) ws) (0 + 4 * i) ≡ getD ws i 0
     at i l =
         let get : (j : ℕ) → j < 4 → getD (bytesIn (4 * n) ws) (4 * i + j) 0 ≡ byteOf (getD ws i 0) j =

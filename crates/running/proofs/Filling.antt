@@ -1,14 +1,13 @@
 -- What the two ways of a feed make of the buffer and of the hash value. Assumes nothing.
-use mathlib.Core.Path.{_≡_, refl, sym, ap, ap₂, _∙_}
-use mathlib.Core.List.{List, [], _∷_, _++_, append-nil, append-assoc}
-use Prim.Native.Nat.{ℕ, zero, suc, _+_, _-_, _*_, _/_, _%_, _≤_, _<_}
+use mathlib.Core.Path.{_≡_, sym, ap, ap₂, _∙_}
+use mathlib.Core.List.{List, [], _++_, append-nil, append-assoc}
+use Prim.Native.Nat.{ℕ, suc, _+_, _-_, _*_, _/_, _%_, _≤_, _<_}
 use native.Mathlib.Omega.{arith}
 use lib.ListN.{length, take, drop, replicate, length-append, length-drop, length-replicate}
 use lib.ListN.{drop-of-length-le, take-append-drop, replicate-append-replicate}
 use lib.Seq.{take-all, take-at, drop-at, drop-drop, drop-append-add, length-take-le}
 use borrow.Rule.Slice.PartMut.{midOf, postOf, putMid}
 use Rattle.sha_block.specs.Blocks.{hashed, hashWords, hashValue, absorbed}
-use Rattle.sha_block.specs.declared.state.State.{State}
 use Rattle.sha_block.proofs.Hashed.{hashed-append, absorbed-words, absorbed-hashed}
 use Rattle.sha384.specs.Constants.{constants}
 use Rattle.running.specs.Running.{filled, waitingThen, fedOf}

@@ -1,21 +1,22 @@
 -- The state after a message: it depends on the bytes only, not on where they were cut. Assumes nothing.
 use mathlib.Core.Path.{_≡_, refl, sym, ap, ap₂, _∙_}
-use mathlib.Core.Bool.{Bool, true, false, cond, _&&_}
-use mathlib.Core.List.{List, [], _∷_, _++_, append-nil, append-assoc}
-use Prim.Native.Nat.{ℕ, zero, suc, _+_, _-_, _*_, _/_, _%_, _≤_, _<_}
+use mathlib.Core.Bool.{true}
+use mathlib.Core.List.{List, [], _∷_, _++_, append-assoc}
+use Prim.Native.Nat.{ℕ, zero, suc, _^_, _<_, _+_, _-_, _*_, _/_, _%_, _≤_}
 use native.Mathlib.Omega.{arith}
 use borrow.Author.Tests.{eq-eqb, le-leb}
-use lib.Dec.{eqb, leb}
-use lib.ListN.{length, take, drop, replicate, length-append, length-take, length-drop, take-append-drop}
+use lib.ListN.{getD, length-replicate}
+use lib.ListN.{length, take, drop, replicate, length-append, length-drop, take-append-drop}
 use lib.Seq.{take-at, drop-append-add, length-take-le}
-use Rattle.sha_block.specs.Blocks.{hashed, hashWords, absorbed}
+use Rattle.sha_block.specs.Rounds.{nextHash}
+use Rattle.sha_block.specs.Blocks.{blockOf, hashed, hashWords, absorbed}
 use Rattle.sha_block.specs.declared.state.State.{State}
 use Rattle.sha_block.proofs.Hashed.{hashed-front, hashed-append, absorbed-words}
 use Rattle.sha384.specs.Constants.{constants, initialOf}
-use Rattle.sha384.specs.Sha384.{padding, padded, hashOf, firstSix, sha384}
+use Rattle.sha384.specs.Sha384.{padding, firstSix, sha384}
 use Rattle.sha384.specs.Entries.{concluded}
 use Rattle.sha384.proofs.Hash.{in-two-runs}
-use Rattle.running.specs.Running.{longestTotal, filled, begun, agrees, waitingThen, fedOf}
+use Rattle.running.specs.Running.{longestTotal, filled, begun, agrees, fedOf}
 use Rattle.running.specs.declared.Running.{Running}
 
 -- the bytes of a message past its whole blocks
@@ -93,3 +94,42 @@ state-concluded m =
     ap firstSix
     (in-two-runs m t (hashed constants initialOf m (length m / 128)) (hashed constants (hashed constants initialOf m (length m / 128)) t (length t / 128)) refl
     (ap (λ (l : List ℕ). l ++ padding (length m)) (waits m)) refl)
+
+-- ---- the words of a hash value are words of 64 bits
+
+abbrev Small : List ℕ → Type 0
+Small l = (i : ℕ) → getD l i 0 < 2 ^ 64
+
+small-eight : (s : State) → s .a < 2 ^ 64 → s .b < 2 ^ 64 → s .c < 2 ^ 64 → s .d < 2 ^ 64 → s .e < 2 ^ 64 → s .f < 2 ^ 64 → s .g < 2 ^ 64 → s .h < 2 ^ 64
+    → Small (hashWords s)
+small-eight s a b c d e f g h zero = a
+small-eight s a b c d e f g h (suc zero) = b
+small-eight s a b c d e f g h (suc (suc zero)) = c
+small-eight s a b c d e f g h (suc (suc (suc zero))) = d
+small-eight s a b c d e f g h (suc (suc (suc (suc zero)))) = e
+small-eight s a b c d e f g h (suc (suc (suc (suc (suc zero))))) = f
+small-eight s a b c d e f g h (suc (suc (suc (suc (suc (suc zero)))))) = g
+small-eight s a b c d e f g h (suc (suc (suc (suc (suc (suc (suc zero))))))) = h
+small-eight s a b c d e f g h (suc (suc (suc (suc (suc (suc (suc (suc i)))))))) = omega arith
+
+small-hashed : (p : List ℕ) (n : ℕ) → Small (hashWords (hashed constants initialOf p n))
+unfolding initialOf blockOf nextHash
+small-hashed p zero =
+    small-eight initialOf (omega arith) (omega arith) (omega arith) (omega arith) (omega arith) (omega arith) (omega arith) (omega arith)
+small-hashed p (suc n) =
+    small-eight (hashed constants initialOf p (suc n)) (omega arith) (omega arith) (omega arith) (omega arith) (omega arith) (omega arith) (omega arith)
+    (omega arith)
+
+pub state-small : (m : List ℕ) (i : ℕ) → getD (stateOf m .hash) i 0 < 2 ^ 64
+unfolding stateOf
+state-small m i = small-hashed m (length m / 128) i
+
+pub length-filled : (m : List ℕ) → length (stateOf m .buffer) ≡ 128
+unfolding stateOf filled
+length-filled m =
+    let rest = restOf m in
+    length-append rest (replicate (128 - length rest) 0) ∙ omega (arith, length-rest m, length-replicate {A = ℕ} (128 - length rest) 0)
+
+pub length-hash : (m : List ℕ) → length (stateOf m .hash) ≡ 8
+unfolding stateOf
+length-hash m = refl

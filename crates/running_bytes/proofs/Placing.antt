@@ -1,12 +1,12 @@
 -- Stores of a state's parts, one behind the other. Assumes nothing.
 use mathlib.Core.Path.{_≡_, refl, sym, ap, ap₂, _∙_}
 use mathlib.Core.List.{List, [], _∷_, _++_, append-assoc, append-nil}
-use Prim.Native.Nat.{ℕ, zero, suc, _+_, _-_, _*_, _≤_, _<_}
+use Prim.Native.Nat.{ℕ, _+_, _-_, _*_, _≤_, _<_}
 use native.Mathlib.Numerals.{add-one}
 use native.Mathlib.Omega.{arith}
 use borrow.Rule.Slice.PartMut.{midOf, postOf, putMid}
-use lib.ListN.{length, take, drop, getD, length-append, length-take, length-drop, drop-of-length-le}
-use lib.Seq.{sets, sets-eq, length-sets, take-all, take-suc, drop-drop, length-take-le}
+use lib.ListN.{length, take, drop, getD, length-append, length-drop, drop-of-length-le}
+use lib.Seq.{sets, sets-eq, take-all, take-suc, drop-drop, length-take-le}
 use Rattle.layout.specs.Words.{bytes8}
 use Rattle.layout.proofs.Blocks.{sets-join, sets-whole}
 use Rattle.running.specs.declared.Running.{Running}
@@ -23,7 +23,7 @@ copied n i l v o hv hl e =
     ap₂ (λ (x y : List ℕ). take i l ++ (x ++ y)) full rest ∙ sym (append-assoc (take i l) v (drop (i + length v) l))
     ∙ sym (sets-eq v l i (omega arith))
 
-long-append : (a b : List ℕ) → longBytes (a ++ b) ≡ longBytes a ++ longBytes b
+pub long-append : (a b : List ℕ) → longBytes (a ++ b) ≡ longBytes a ++ longBytes b
 long-append [] b = refl
 long-append (x ∷ a) b = ap (λ (l : List ℕ). bytes8 x ++ l) (long-append a b) ∙ sym (append-assoc (bytes8 x) (longBytes a) (longBytes b))
 

@@ -2,7 +2,7 @@
 use mathlib.Core.Path.{_≡_}
 use mathlib.Core.List.{List, [], _∷_}
 use Prim.Native.Nat.{ℕ}
-use lib.ListN.{length, take}
+use lib.ListN.{length}
 use Rattle.running.specs.Steps.{Step, feed, finish, Result, fed, finished, told}
 use Rattle.running_bytes.specs.Coding.{stateSize}
 use Rattle.running_bytes.specs.Entries.{beginBytes, feedNumberIn, feedBytes, finishNumberIn, finishBuffer}

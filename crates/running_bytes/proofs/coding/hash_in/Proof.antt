@@ -1,10 +1,10 @@
 -- `running_bytes::coding::hash_in` meets its contract: eight numbers, one behind the other. Assumes nothing.
-use mathlib.Core.Path.{_≡_, refl, ap, ap₂, _∙_}
-use mathlib.Core.List.{List, [], _∷_}
+use mathlib.Core.Path.{_≡_}
+use mathlib.Core.List.{[], _∷_}
 use Prim.Native.Nat.{ℕ}
 use borrow.Author.Needs.{needs}
-use Rattle.layout.specs.Words.{tab, le64}
-use Rattle.running_bytes.specs.Coding.{hashIn, longsAt}
+use Rattle.layout.specs.Words.{tab}
+use Rattle.running_bytes.specs.Coding.{longsAt}
 use Rattle.running_bytes.proofs.coding.hash_in.Statement.{statement}
 use Rattle.running_bytes.proofs.coding.hash_in.Tie as tie
 

@@ -1,10 +1,9 @@
 -- `running_bytes::coding::put_state` meets its contract: four parts, one behind the other, fill the buffer. Assumes nothing.
 use mathlib.Core.Path.{_≡_}
-use mathlib.Core.List.{List}
-use Prim.Native.Nat.{ℕ, _+_, _-_, _≤_}
+use Prim.Native.Nat.{_-_}
 use native.Mathlib.Omega.{arith}
 use borrow.Author.Needs.{needs}
-use lib.ListN.{length, take, drop, length-take, length-drop}
+use lib.ListN.{length, length-take, length-drop}
 use Rattle.running_bytes.specs.Coding.{bufferIn, hashIn}
 use Rattle.running_bytes.proofs.Placing.{copied, state-placed}
 use Rattle.running_bytes.proofs.coding.put_state.Statement.{statement}
