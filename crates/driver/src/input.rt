@@ -12,6 +12,7 @@ use machine::STORE;
 use machine::UPDATE_BOOT;
 use slices::little_endian::byte;
 use slices::little_endian::read32;
+use slices::little_endian::read64;
 
 // The operations that are no act of the machine, after the machine's numbers.
 pub const LEND: u8 = 6;
@@ -24,11 +25,20 @@ pub const DUMP: u8 = 9;
 
 pub const STOP: u8 = 10;
 
+// Those of the running digest.
+pub const BEGIN: u8 = 11;
+
+pub const FEED: u8 = 12;
+
+pub const FINISH: u8 = 13;
+
+pub const SET_COUNT: u8 = 14;
+
 // An operation: the machine's number of its act or one of the above, and where the next one stands.
 // Two byte strings, from `first` to `middle` and from `second` to `last`: a boot's digest and secret, a
-// request's handoff table and bytes, an image's words. `code` is a request's or the part that is set,
-// `number` the count of stores or the value that is set, `size` that of an answer's buffer, `words` that
-// of the image that is lent.
+// request's handoff table and bytes, an image's words, a slice. `code` is a request's or the part that is
+// set, `number` the count of stores or the value that is set, `size` that of an answer's buffer, `words`
+// that of the image that is lent.
 pub(crate) struct Operation {
     pub kind: u8,
     pub end: usize,
@@ -73,11 +83,19 @@ fn string_length(input: &[u8], at: usize) -> usize
     byte(input, at, 0) as usize + 256 * byte(input, at, 1) as usize
 }
 
-// A number of eight bytes.
-fn read64(input: &[u8], at: usize) -> usize
-    requires { ⌜ at < 2097152 ⌝ }
+// One byte string of so many bytes, behind four bytes that tell its length.
+fn with_string(kind: u8, at: usize, count: usize) -> Operation
+    requires { ⌜ (at < inputBytes) × (count < 4294967296) ⌝ }
+    ensures { λ r. ⌜ Formed at r ⌝ }
 {
-    read32(input, at) as usize + 4294967296 * read32(input, at + 4) as usize
+    let first = at + 5;
+    let end = first + count;
+    let mut read = bare(kind, at, end);
+    read.first = first;
+    read.middle = end;
+    read.second = end;
+    read.last = end;
+    read
 }
 
 // Two byte strings from an index on, each after its length, and `more` bytes behind them.
@@ -129,15 +147,17 @@ fn image(input: &[u8], at: usize) -> Operation
     if MEMORY_WORDS < count {
         return bare(STOP, at, input.len());
     }
-    let first = at + 5;
-    let end = first + 4 * count;
-    let mut read = bare(LEND, at, end);
-    read.first = first;
-    read.middle = end;
-    read.second = end;
-    read.last = end;
+    let mut read = with_string(LEND, at, 4 * count);
     read.words = count;
     read
+}
+
+// A slice, after its length in four bytes.
+fn slice(input: &[u8], at: usize) -> Operation
+    requires { ⌜ at < inputBytes ⌝ }
+    ensures { λ r. ⌜ Formed at r ⌝ }
+{
+    with_string(FEED, at, read32(input, at + 1) as usize)
 }
 
 // Stores: how many.
@@ -160,14 +180,14 @@ fn answer(input: &[u8], at: usize) -> Operation
     read
 }
 
-// A part of the work in hand, and its value.
-fn part(input: &[u8], at: usize) -> Operation
+// A part of the work in hand, or a count of the running digest, and its value.
+fn part(kind: u8, input: &[u8], at: usize) -> Operation
     requires { ⌜ at < inputBytes ⌝ }
     ensures { λ r. ⌜ Formed at r ⌝ }
 {
-    let mut read = bare(SET, at, at + 10);
+    let mut read = bare(kind, at, at + 10);
     read.code = byte(input, at, 1) as u32;
-    read.number = read64(input, at + 2);
+    read.number = read64(input, at + 2) as usize;
     read
 }
 
@@ -186,8 +206,12 @@ fn begun(input: &[u8], at: usize) -> Operation
         b'A' => answer(input, at),
         b'L' => bare(LEFT, at, at + 1),
         b'X' => bare(POWER_CUT, at, at + 1),
-        b'W' => part(input, at),
+        b'W' => part(SET, input, at),
         b'D' => bare(DUMP, at, at + 1),
+        b'b' => bare(BEGIN, at, at + 1),
+        b'f' => slice(input, at),
+        b'e' => bare(FINISH, at, at + 1),
+        b'w' => part(SET_COUNT, input, at),
         _ => bare(STOP, at, input.len()),
     }
 }

@@ -1,8 +1,8 @@
-// Lends one memory image to the engine, makes the operations that stand on standard input, and writes
-// what each gave to standard output.
+// Lends one memory image to the engine, keeps one running digest, makes the operations that stand on
+// standard input, and writes what each gave to standard output.
 //
 // An operation is a letter and its arguments; numbers are little endian, and a byte string stands
-// after its length (u16). The run ends at the end of the input, at an unknown letter, at an operation
+// after its length (u16; u32 for a slice). The run ends at the end of the input, at an unknown letter, at an operation
 // that the input cuts short and at an image of more than 4,096 words. The input is read first: one
 // that cannot be read gets a message on standard error, and nothing is run. Output that cannot be
 // written ends the run, with a message on standard error.
@@ -10,6 +10,7 @@ mod calls;
 mod input;
 mod output;
 mod parts;
+mod pieces;
 mod state;
 
 ghost use mathlib.Core.Path.{_≡_};
@@ -24,6 +25,7 @@ use crate::input::read_operation;
 use crate::parts::alone;
 use crate::parts::dump;
 use crate::parts::lent;
+use crate::pieces::digested;
 use crate::state::INPUT_BYTES;
 use crate::state::MEMORY_WORDS;
 use crate::state::Operated;
@@ -54,24 +56,28 @@ fn operate(given: Operation, input: &[u8], image: &mut [u32], hand: InHand) -> O
     alone(given, hand)
 }
 
-// The operations one after another, from an image of zeros, until one gave something that cannot be
-// written. Tells whether all was written.
+// The operations one after another, from an image of zeros and a running digest just begun, until one
+// gave something that cannot be written. Tells whether all was written.
 fn run(input: &[u8]) -> bool
     requires { ⌜ length (now input) ≤ inputBytes ⌝ }
 {
     let mut memory = [0u32; MEMORY_WORDS];
     let mut words = IMAGE_WORDS;
     let mut hand = none_in_hand();
+    let mut state = running::begin();
     let mut at = 0;
     while at < input.len() {
         let given = read_operation(input, at);
         words = lent(given, input, &mut memory, words);
         let made = operate(given, input, &mut memory[..words], hand);
-        if !made.written {
+        let digesting = digested(given, input, state);
+        if !(made.written && digesting.written) {
             return false;
         }
         let after = made.hand;
         hand = after;
+        let next = digesting.state;
+        state = next;
         at = given.end;
     }
     true

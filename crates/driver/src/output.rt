@@ -9,6 +9,7 @@ use machine::Report;
 use opening::Outcome;
 use opening::works::outcome_number;
 use packing::four;
+use sha384::digest::DigestResult;
 
 // What is written for a number of the work in hand where there is none.
 pub const NO_WORK: u32 = 0xFFFFFFFF;
@@ -61,6 +62,12 @@ pub(crate) fn put_report(report: Report, buffer: &[u8]) -> bool {
         Report::NoWork => put_answer(NO_WORK, buffer),
         _ => true,
     }
+}
+
+// What a finish of the running digest gives.
+pub(crate) fn put_digest(done: DigestResult) -> bool {
+    let bytes = done.bytes;
+    put32(done.number) && put(&bytes)
 }
 
 // The bytes of an image's words at the front of a buffer.

@@ -1,4 +1,4 @@
--- Each turn the next operation stands further on in the input, and the memory keeps its length.
+-- `driver::run` ends: each turn the next operation stands further on in the input, and the memory keeps its length. Assumes nothing.
 use native.Mathlib.Omega.{arith}
 use borrow.Author.Needs.{needs}
 use Prim.Native.Nat.{_≤_, _-_}
@@ -10,13 +10,16 @@ use Rattle.driver.proofs.run.Statement.{statement}
 use Rattle.driver.proofs.run.Tie as tie
 
 abbrev Inv-loop : tie.InvT-loop
-Inv-loop input memory₀ words₀ hand₀ at₀ memory words hand at = (length memory ≡ memoryWords) × (words ≤ memoryWords)
+Inv-loop input memory₀ words₀ hand₀ state₀ at₀ memory words hand state at = (length memory ≡ memoryWords) × (words ≤ memoryWords)
 
 abbrev μ-loop : tie.MeasureT-loop
-μ-loop input memory₀ words₀ hand₀ at₀ memory words hand at = length input - at
+μ-loop input memory₀ words₀ hand₀ state₀ at₀ memory words hand state at = length input - at
 
 none-in-hand-requires : tie.Need-none-in-hand-requires Inv-loop μ-loop
 none-in-hand-requires c κs = search needs
+
+begin-requires : tie.Need-begin-requires Inv-loop μ-loop
+begin-requires c κs = tt
 
 loop-holds : tie.Need-loop-holds Inv-loop μ-loop
 loop-holds c = search needs
@@ -44,6 +47,9 @@ operate-requires c κs = (
       (omega arith),
 )
 
+digested-requires : tie.Need-digested-requires Inv-loop μ-loop
+digested-requires c κs = c .before .before .before .before .before .before .read-operation .ensures .1
+
 returns : tie.Need-returns Inv-loop μ-loop
 returns c = search needs
 
@@ -52,8 +58,9 @@ loop-less c = search needs
 
 loop-again : tie.Need-loop-again Inv-loop μ-loop
 loop-again c =
-    let lent = c .before .before .before .before .before .before .before .lent in
-    let operate = c .before .before .before .before .operate in
+    let operated = c .before .before .before .before .before .before in
+    let lent = operated .before .before .before .lent in
+    let operate = operated .operate in
     let front = length-front (lent .last .1 .1 .0) (operate .last .1 .1 .0) (lent .result) (operate .kept .1 .1 .0) in
     (omega (arith, front, lent .kept .1 .1 .0), lent .ensures)
 
@@ -67,6 +74,7 @@ run-spec =
     Inv-loop
     μ-loop
     none-in-hand-requires
+    begin-requires
     loop-holds
     read-operation-requires
     slice-aggregate-lent
@@ -74,6 +82,7 @@ run-spec =
     array-borrow-prefix-memory
     slice-aggregate-operate
     operate-requires
+    digested-requires
     returns
     loop-less
     loop-again
