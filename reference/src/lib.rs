@@ -5,9 +5,9 @@
 //!
 //! The reading of document 01 is `layout`, `memory`, `requests`, `boots`,
 //! `work`, `engine`, `mailbox` and `book`; document 02's running digest is
-//! `running`. Around it: `script` and `player` are the driver, `generate` makes
-//! scripts, `campaign` compares, and `wrong` and `book::wrong` hold what is
-//! wrong on purpose.
+//! `running` and `book::slices`. Around it: `script` and `player` are the
+//! driver, `generate` makes scripts, `campaign` compares, and `wrong` and
+//! `book::wrong` hold what is wrong on purpose.
 
 // The reading.
 pub mod book;

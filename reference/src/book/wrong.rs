@@ -1,11 +1,12 @@
 //! Books that are wrong on purpose: the right engine has to disagree with them.
 
+use super::slices::Slices;
 use super::{Book, Event, Look, Opened, State};
 use crate::boots::{Boots, Inputs};
 use crate::engine::Paper;
 use crate::requests::Request;
 
-/// How a book is kept.
+/// How the books are kept.
 pub trait Keeper {
     fn request(&self, book: &mut Book, request: Request) -> Opened {
         book.request(request)
@@ -22,9 +23,18 @@ pub trait Keeper {
     fn cut(&self, book: &mut Book) {
         book.cut();
     }
+
+    /// The book of a running digest that is begun; there may be one before it.
+    fn begin(&self, _before: Option<Slices>) -> Slices {
+        Slices::default()
+    }
+
+    fn feed(&self, slices: &mut Slices, slice: &[u8]) -> u32 {
+        slices.feed(slice)
+    }
 }
 
-/// Keeps the book as it is.
+/// Keeps the books as they are.
 pub struct Fair;
 
 impl Keeper for Fair {}
