@@ -92,6 +92,21 @@ pub const BOOKS: &[WrongBook] = &[
         "a counted update is left out of the history",
         &Forgotten(|event| matches!(event, Event::Update(_))),
     ),
+    book(
+        "BeginForgotten",
+        "a begin leaves the accepted slices in the list",
+        &BeginForgotten,
+    ),
+    book(
+        "SlicesSwapped",
+        "a slice joins in front of those before it",
+        &SlicesSwapped,
+    ),
+    book(
+        "RefusedSliceJoined",
+        "a refused slice joins the accepted ones",
+        &RefusedSliceJoined,
+    ),
 ];
 
 struct OffBeforeGoes;
@@ -209,4 +224,35 @@ fn untorn(book: &mut Book, inputs: Inputs) {
 fn is_unstarted(book: &Book) -> bool {
     let hand = book.in_hand.as_ref();
     hand.is_some_and(|hand| hand.made == 0 && hand.left() > 0)
+}
+
+struct BeginForgotten;
+
+impl Keeper for BeginForgotten {
+    fn begin(&self, before: Option<Slices>) -> Slices {
+        before.unwrap_or_default()
+    }
+}
+
+struct SlicesSwapped;
+
+impl Keeper for SlicesSwapped {
+    fn feed(&self, slices: &mut Slices, slice: &[u8]) -> u32 {
+        let before = slices.joined.len();
+        let number = slices.feed(slice);
+        slices.joined.rotate_left(before);
+        number
+    }
+}
+
+struct RefusedSliceJoined;
+
+impl Keeper for RefusedSliceJoined {
+    fn feed(&self, slices: &mut Slices, slice: &[u8]) -> u32 {
+        let number = slices.feed(slice);
+        if number != 0 {
+            slices.joins(slice);
+        }
+        number
+    }
 }
