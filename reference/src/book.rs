@@ -1,6 +1,7 @@
 //! The book of demand 3: what a list of calls and cuts after a cold boot comes
 //! to. Its registers and nodes are computed from the history alone.
 
+pub mod slices;
 pub mod wrong;
 
 use crate::boots::{Boot, Boots, Inputs};

@@ -1,7 +1,7 @@
 //! Runs another program on generated inputs and compares byte for byte.
 
 use crate::checksum::sealed;
-use crate::generate::{program_input, script, Script};
+use crate::generate::{fixed_inputs, program_input, script, Script};
 use crate::layout::{DISABLE, IDENTITY, IMAGE_WORDS, STASH, VERIFY};
 use crate::mailbox::mailbox;
 use crate::player::play;
@@ -77,8 +77,8 @@ fn run_in_pieces(program: &Path, input: &[u8], piece: usize) -> Result<Vec<u8>, 
     }
 }
 
-/// Scripts that are played in one run of the program, an image of zeros
-/// between them.
+/// Scripts that are played in one run of the program. Between them the image
+/// and the running digest are made as they are at the start.
 struct Batch {
     seeds: Vec<u64>,
     input: Vec<u8>,
@@ -106,6 +106,7 @@ impl Batch {
     fn add(&mut self, seed: u64, script: &Script) {
         if !self.input.is_empty() {
             Op::Image(vec![0; IMAGE_WORDS]).encode(&mut self.input);
+            Op::Begin.encode(&mut self.input);
         }
         let bytes = script.bytes();
         self.seeds.push(seed);
@@ -126,10 +127,10 @@ pub struct Options {
     pub keep: PathBuf,
 }
 
-/// Inputs that have no seed: longer than what is used of one, and operations
-/// of the greatest lengths.
-fn long_inputs() -> Vec<Vec<u8>> {
-    let mut inputs = Vec::new();
+/// Inputs that have no seed: longer than what is used of one, operations of the
+/// greatest lengths, and every case of the running digest.
+fn inputs_without_seed() -> Vec<Vec<u8>> {
+    let mut inputs = fixed_inputs();
     // The last byte that is used is an operation; then one is cut by the end.
     for before in [INPUT_BYTES - 1, INPUT_BYTES - 2, INPUT_BYTES] {
         let mut input = vec![b'X'; before];
@@ -218,7 +219,7 @@ impl Scripts<'_> {
 /// Compares a driver with the player. False if one script differs.
 pub fn campaign(options: &Options) -> Result<bool, String> {
     is_program(&options.engine)?;
-    if !long_inputs_agree(options) {
+    if !inputs_without_seed_agree(options) {
         return Ok(false);
     }
     let mut all = Scripts {
@@ -255,13 +256,13 @@ pub fn campaign(options: &Options) -> Result<bool, String> {
     Ok(found.is_none())
 }
 
-fn long_inputs_agree(options: &Options) -> bool {
-    let inputs = long_inputs();
+fn inputs_without_seed_agree(options: &Options) -> bool {
+    let inputs = inputs_without_seed();
     let different = inputs
         .iter()
         .position(|input| differs(&options.engine, input));
     if let Some(count) = different {
-        report(options, &format!("long-{count}"), &inputs[count]);
+        report(options, &format!("fixed-{count}"), &inputs[count]);
     }
     different.is_none()
 }

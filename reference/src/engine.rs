@@ -1,19 +1,22 @@
 //! The engine: the entries, made of parts that each hold a section's rules.
 
 use crate::boots::{Boots, Inputs, Opened};
+use crate::layout::Digest;
 use crate::mailbox::Program;
 use crate::memory::{Memory, Unit};
 use crate::player::Host;
 use crate::requests::{Request, Requests};
+use crate::running::{Running, RunningDigest};
 use crate::work::{Work, Works};
 
-/// Every rule as document 01 has it.
+/// Every rule as the papers have it.
 pub struct Paper;
 
 impl Memory for Paper {}
 impl Requests for Paper {}
 impl Boots for Paper {}
 impl Works for Paper {}
+impl RunningDigest for Paper {}
 impl Program for Paper {}
 impl Host for Paper {}
 
@@ -23,6 +26,7 @@ pub struct Engine {
     pub requests: &'static dyn Requests,
     pub boots: &'static dyn Boots,
     pub works: &'static dyn Works,
+    pub running: &'static dyn RunningDigest,
     /// The small program around the entries, and the driver.
     pub program: &'static dyn Program,
     pub host: &'static dyn Host,
@@ -35,6 +39,7 @@ impl Engine {
         requests: &Paper,
         boots: &Paper,
         works: &Paper,
+        running: &Paper,
         program: &Paper,
         host: &Paper,
     };
@@ -68,5 +73,17 @@ impl Engine {
 
     pub fn answer(&self, work: &Work, buffer: &mut [u8]) -> u32 {
         self.works.answer(work, buffer)
+    }
+
+    pub fn begin(&self, running: &mut Running) {
+        self.running.begin(running);
+    }
+
+    pub fn feed(&self, running: &mut Running, slice: &[u8]) -> u32 {
+        self.running.feed(running, slice)
+    }
+
+    pub fn finish(&self, running: &Running) -> (u32, Digest) {
+        self.running.finish(running)
     }
 }

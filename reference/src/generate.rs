@@ -1,14 +1,18 @@
-//! Scripts by seed. Each mixes pieces of five sorts and ends with the image.
+//! Scripts by seed. Each mixes pieces of six sorts and ends with the image.
 
 mod broken;
 mod damage;
+mod fixed;
 mod images;
 mod lists;
 mod requests;
+mod slices;
 mod works;
 
+pub use fixed::fixed_inputs;
 pub use images::{odd_image_1, odd_image_2};
 pub use requests::program_input;
+pub use slices::cuts;
 
 use crate::layout::*;
 use crate::random::Random;
@@ -16,6 +20,9 @@ use crate::script::{encode, BootBytes, Op};
 
 /// A script grows no more once it has this many bytes.
 const ENOUGH: usize = 8_500;
+
+/// One operation in so many has one on the running digest before it.
+const RUNNING_BETWEEN: usize = 24;
 
 /// Operations, and bytes after them at which the run ends.
 pub struct Script {
@@ -41,14 +48,18 @@ pub fn script(seed: u64) -> Script {
         4 => maker.images(2),
         5 => maker.requests(),
         6 => maker.works(12),
-        _ => {}
+        _ => maker.cuts_in_turn(),
+    }
+    if seed % 64 == 63 {
+        maker.long_slices();
     }
     while maker.size < ENOUGH && !maker.random.once_in(3) {
-        match maker.random.below(6) {
+        match maker.random.below(7) {
             0 | 1 => maker.lists(1),
             2 => maker.images(1),
             3 => maker.requests(),
             4 => maker.works(6),
+            5 => maker.slices(6),
             _ => maker.long_list(),
         }
     }
@@ -85,7 +96,17 @@ impl Maker {
         }
     }
 
+    /// Adds an operation and now and then, before it, one on the running digest,
+    /// which is to leave the others alone, and they it.
     fn push(&mut self, op: Op) {
+        if self.random.once_in(RUNNING_BETWEEN) {
+            self.push_running();
+        }
+        self.add(op);
+    }
+
+    /// Adds an operation.
+    fn add(&mut self, op: Op) {
         self.size += op.bytes().len();
         self.ops.push(op);
     }

@@ -1,6 +1,7 @@
 //! Where everything is in the memory image and how long everything is: the
-//! table of "What the unit holds", the numbers of "Mailbox" and of the store
-//! table. Every figure stands here once; `tests/figures.rs` has the paper's.
+//! table of "What the unit holds", the numbers of "Mailbox", of the store table
+//! and of the running digest. Every figure stands here once; `tests/figures.rs`
+//! has the papers'.
 
 use crate::sha384::{digest, DIGEST_BYTES};
 
@@ -105,6 +106,10 @@ pub const TABLE_MAJOR: u16 = 1;
 pub const KEY_AT: usize = 304;
 pub const KEY_BYTES: usize = 96;
 
+/// The longest slice of a running digest, and the most bytes of all slices.
+pub const SLICE_BYTES: usize = 65_535;
+pub const TOTAL_BYTES: u64 = 0xFFFF_FFFF;
+
 /// The numbers handed back.
 pub mod number {
     pub const IMAGE: u32 = 1;
@@ -116,7 +121,10 @@ pub mod number {
     pub const STORES_LEFT: u32 = 7;
     pub const BUFFER: u32 = 8;
     pub const NO_STORE: u32 = 9;
+    pub const SLICE: u32 = 10;
     pub const TREE: u32 = 11;
+    pub const TOTAL: u32 = 16;
+    pub const COUNTS: u32 = 27;
     pub const CHECKSUM: u32 = 0x4243_484B;
     pub const SIGNATURE: u32 = 0x4253_4947;
 }

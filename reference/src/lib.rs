@@ -4,8 +4,9 @@
 //! crates. Tests run both and compare what they hand back.
 //!
 //! The reading of document 01 is `layout`, `memory`, `requests`, `boots`,
-//! `work`, `engine`, `mailbox` and `book`. Around it: `script` and `player` are
-//! the driver, `generate` makes scripts, `campaign` compares, and `wrong` and
+//! `work`, `engine`, `mailbox` and `book`; document 02's running digest is
+//! `running` and `book::slices`. Around it: `script` and `player` are the
+//! driver, `generate` makes scripts, `campaign` compares, and `wrong` and
 //! `book::wrong` hold what is wrong on purpose.
 
 // The reading.
@@ -17,6 +18,7 @@ pub mod layout;
 pub mod mailbox;
 pub mod memory;
 pub mod requests;
+pub mod running;
 pub mod sha384;
 pub mod work;
 

@@ -1,13 +1,18 @@
 //! Plays a script on the engine, with the book beside it wherever a list
-//! follows a completed cold boot.
+//! follows a completed cold boot, and with a book of the accepted slices beside
+//! the running digest for as long as no count is set from outside.
 
+mod running;
+
+use crate::book::slices::Slices;
 use crate::book::wrong::{Fair, Keeper};
 use crate::book::{Book, Look, Opened};
 use crate::boots::{Boot, Boots, Inputs};
 use crate::engine::{Engine, Paper};
 use crate::layout::*;
 use crate::requests::Request;
-use crate::script::{Op, Reader};
+use crate::running::Running;
+use crate::script::{Op, Reader, TOTAL, WAITING};
 use crate::work::{Kind, Work};
 use std::collections::BTreeSet;
 
@@ -34,6 +39,28 @@ pub trait Host {
     fn after_answer(&self, work: Work) -> Work {
         work
     }
+
+    /// The running digest when a run starts.
+    fn at_start(&self) -> Running {
+        Running::begun()
+    }
+
+    /// What an operation of that letter does to the running digest besides its
+    /// own part: nothing.
+    fn alters_running(&self, _letter: u8, _running: &mut Running) {}
+
+    /// What an operation of that letter does to the work in hand besides its
+    /// own part: nothing.
+    fn alters_work(&self, _letter: u8, _in_hand: &mut Option<Work>) {}
+
+    /// Sets a count of the running digest.
+    fn set_count(&self, running: &mut Running, field: u8, value: u64) {
+        match field {
+            TOTAL => running.total = value,
+            WAITING => running.waiting = value,
+            _ => {}
+        }
+    }
 }
 
 /// What the calls of a run have come to, for the coverage test.
@@ -49,6 +76,10 @@ pub struct Seen {
     pub damaged_works: u64,
     pub looks: u64,
     pub looks_after_tears: u64,
+    /// Bytes waiting before and after an accepted slice.
+    pub waiting: BTreeSet<(u64, u64)>,
+    /// Digests that the book of the slices was asked for too.
+    pub digests: u64,
     pub operations: u64,
 }
 
@@ -64,10 +95,13 @@ pub struct Player {
     engine: Engine,
     image: Vec<u32>,
     work: Option<Work>,
+    running: Running,
     watch: Watch,
+    /// The book of the running digest; none once a count was set.
+    slices: Option<Slices>,
     output: Vec<u8>,
     pub seen: Seen,
-    /// Who keeps the book.
+    /// Who keeps the books.
     pub keeper: &'static dyn Keeper,
 }
 
@@ -85,6 +119,7 @@ pub fn play_unwatched(engine: Engine, input: &[u8]) -> Vec<u8> {
     let mut player = Player::new(engine);
     for op in Reader::new(input) {
         player.watch = Watch::Nothing;
+        player.slices = None;
         let _ = player.operate(op);
     }
     player.output
@@ -96,7 +131,9 @@ impl Player {
             engine,
             image: vec![0; IMAGE_WORDS],
             work: None,
+            running: engine.host.at_start(),
             watch: Watch::Nothing,
+            slices: Some(Slices::default()),
             output: Vec::new(),
             seen: Seen::default(),
             keeper: &Fair,
@@ -125,9 +162,27 @@ impl Player {
         self.work.as_ref()
     }
 
+    pub fn running(&self) -> &Running {
+        &self.running
+    }
+
     /// Makes one operation.
     pub fn operate(&mut self, op: Op) -> Result<(), String> {
         self.seen.operations += 1;
+        let letter = op.letter();
+        let made = self.make(op);
+        let host = self.engine.host;
+        host.alters_running(letter, &mut self.running);
+        host.alters_work(letter, &mut self.work);
+        made?;
+        match &self.watch {
+            Watch::List(book) => book.at_every_point(&self.image),
+            _ => Ok(()),
+        }
+    }
+
+    /// An operation's own part.
+    fn make(&mut self, op: Op) -> Result<(), String> {
         match op {
             Op::Image(words) => {
                 self.image = words;
@@ -162,11 +217,12 @@ impl Player {
                     self.output.extend_from_slice(&word.to_le_bytes());
                 }
             }
+            Op::Begin => self.begin()?,
+            Op::Feed(slice) => self.feed(&slice)?,
+            Op::Finish => self.finish()?,
+            Op::SetCount { field, value } => self.set_count(field, value),
         }
-        match &self.watch {
-            Watch::List(book) => book.at_every_point(&self.image),
-            _ => Ok(()),
-        }
+        Ok(())
     }
 
     fn put(&mut self, number: u32) {

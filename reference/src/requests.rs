@@ -91,6 +91,12 @@ pub struct Accepted {
 /// A number and whether it applies.
 pub type Refusal = (u32, bool);
 
+/// The first number of an order that applies, if one does.
+pub fn first_of(order: &[Refusal]) -> Option<u32> {
+    let first = order.iter().find(|(_, applies)| *applies);
+    first.map(|&(number, _)| number)
+}
+
 /// The request rules, each a method, so that an engine can be wrong in just one.
 pub trait Requests {
     /// Opens a request.
@@ -105,8 +111,7 @@ pub trait Requests {
 
     /// A request's number if one applies; else its task and its answer.
     fn decide(&self, view: &View, request: Request) -> Result<Accepted, u32> {
-        let order = self.order(view, request);
-        if let Some(&(number, _)) = order.iter().find(|(_, applies)| *applies) {
+        if let Some(number) = first_of(&self.order(view, request)) {
             return Err(number);
         }
         let (task, body) = match request.code {

@@ -66,10 +66,22 @@ pub enum Op {
         value: u64,
     },
     Dump,
+    Begin,
+    Feed(Vec<u8>),
+    Finish,
+    /// Sets a count of the running digest, `TOTAL` or `WAITING`.
+    SetCount {
+        field: u8,
+        value: u64,
+    },
 }
 
+/// The fields of the running digest that can be set.
+pub const TOTAL: u8 = 0;
+pub const WAITING: u8 = 1;
+
 /// Every letter of an operation.
-pub const LETTERS: &[u8] = b"ICURSALXWD";
+pub const LETTERS: &[u8] = b"ICURSALXWDbfew";
 
 fn put_string(out: &mut Vec<u8>, bytes: &[u8]) {
     let length =
@@ -91,6 +103,10 @@ impl Op {
             Op::Cut => b'X',
             Op::Set { .. } => b'W',
             Op::Dump => b'D',
+            Op::Begin => b'b',
+            Op::Feed(_) => b'f',
+            Op::Finish => b'e',
+            Op::SetCount { .. } => b'w',
         }
     }
 
@@ -109,11 +125,15 @@ impl Op {
             Op::Request(mail) => mail.encode(out),
             Op::Store(count) => out.extend_from_slice(&count.to_le_bytes()),
             Op::Answer(size) => out.extend_from_slice(&size.to_le_bytes()),
-            Op::Set { field, value } => {
+            Op::Set { field, value } | Op::SetCount { field, value } => {
                 out.push(*field);
                 out.extend_from_slice(&value.to_le_bytes());
             }
-            Op::Left | Op::Cut | Op::Dump => {}
+            Op::Feed(slice) => {
+                out.extend_from_slice(&(slice.len() as u32).to_le_bytes());
+                out.extend_from_slice(slice);
+            }
+            Op::Left | Op::Cut | Op::Dump | Op::Begin | Op::Finish => {}
         }
     }
 
@@ -169,9 +189,19 @@ impl<'a> Reader<'a> {
             b'X' => Op::Cut,
             b'W' => Op::Set {
                 field: fields.byte()?,
-                value: u64::from(fields.number()?) | u64::from(fields.number()?) << 32,
+                value: fields.long()?,
             },
             b'D' => Op::Dump,
+            b'b' => Op::Begin,
+            b'f' => {
+                let length = fields.number()?;
+                Op::Feed(fields.take(length as usize)?.to_vec())
+            }
+            b'e' => Op::Finish,
+            b'w' => Op::SetCount {
+                field: fields.byte()?,
+                value: fields.long()?,
+            },
             _ => return None,
         })
     }
@@ -210,6 +240,11 @@ impl<'a> Fields<'a> {
 
     fn number(&mut self) -> Option<u32> {
         self.take(4).map(little)
+    }
+
+    fn long(&mut self) -> Option<u64> {
+        let (low, high) = (self.number()?, self.number()?);
+        Some(u64::from(high) << 32 | u64::from(low))
     }
 
     fn string(&mut self) -> Option<Vec<u8>> {
@@ -268,6 +303,13 @@ mod tests {
                 value: u64::MAX - 1,
             },
             Op::Dump,
+            Op::Begin,
+            Op::Feed(vec![5; 65_537]),
+            Op::Finish,
+            Op::SetCount {
+                field: 1,
+                value: 0x0807_0605_0403_0201,
+            },
         ];
         let bytes = encode(&ops);
         let mut reader = Reader::new(&bytes);
@@ -283,6 +325,8 @@ mod tests {
             Op::Image(vec![1; 3]),
             Op::Update(boot(4, 4), 1),
             Op::Set { field: 0, value: 3 },
+            Op::Feed(vec![6; 5]),
+            Op::SetCount { field: 0, value: 3 },
         ] {
             let bytes = op.bytes();
             for length in 0..bytes.len() {

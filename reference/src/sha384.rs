@@ -4,14 +4,14 @@
 pub const DIGEST_BYTES: usize = 48;
 
 /// Bytes of a message block.
-const BLOCK_BYTES: usize = 128;
+pub const BLOCK_BYTES: usize = 128;
 
 /// Bytes of the message length, in bits, at the end of the last block.
 const LENGTH_BYTES: usize = 16;
 
 /// The initial hash value (FIPS 180-4, 5.3.4).
 #[rustfmt::skip]
-const INITIAL: [u64; 8] = [
+pub(crate) const INITIAL: [u64; 8] = [
     0xcbbb9d5dc1059ed8, 0x629a292a367cd507, 0x9159015a3070dd17, 0x152fecd8f70e5939,
     0x67332667ffc00b31, 0x8eb44a8768581511, 0xdb0c2e0d64f98fa7, 0x47b5481dbefa4fa4,
 ];
@@ -54,7 +54,7 @@ pub fn digest(message: &[u8]) -> [u8; DIGEST_BYTES] {
 
 /// The bytes after the last whole block, padded to one block or two (5.1.2),
 /// and how many bytes that takes.
-fn padded_tail(rest: &[u8], message_bytes: usize) -> ([u8; 2 * BLOCK_BYTES], usize) {
+pub(crate) fn padded_tail(rest: &[u8], message_bytes: usize) -> ([u8; 2 * BLOCK_BYTES], usize) {
     let fits_one_block = rest.len() + 1 + LENGTH_BYTES <= BLOCK_BYTES;
     let end = if fits_one_block {
         BLOCK_BYTES
@@ -70,7 +70,7 @@ fn padded_tail(rest: &[u8], message_bytes: usize) -> ([u8; 2 * BLOCK_BYTES], usi
 }
 
 /// The hash value after one more block (6.4.2).
-fn next_state(state: [u64; 8], block: &[u8]) -> [u64; 8] {
+pub(crate) fn next_state(state: [u64; 8], block: &[u8]) -> [u64; 8] {
     let schedule = schedule(block);
     let [mut a, mut b, mut c, mut d, mut e, mut f, mut g, mut h] = state;
     for t in 0..80 {
@@ -109,7 +109,7 @@ fn schedule(block: &[u8]) -> [u64; 80] {
 }
 
 /// The first 48 bytes of the hash value, each word's highest byte first.
-fn first_bytes(state: &[u64; 8]) -> [u8; DIGEST_BYTES] {
+pub(crate) fn first_bytes(state: &[u64; 8]) -> [u8; DIGEST_BYTES] {
     let mut digest = [0; DIGEST_BYTES];
     for (bytes, word) in digest.chunks_exact_mut(8).zip(state) {
         bytes.copy_from_slice(&word.to_be_bytes());

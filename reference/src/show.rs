@@ -3,6 +3,7 @@
 use crate::checksum::checksum;
 use crate::layout::*;
 use crate::script::{BootBytes, Mail, Op, Reader};
+use crate::sha384::DIGEST_BYTES;
 
 fn hex(bytes: &[u8]) -> String {
     bytes.iter().map(|byte| format!("{byte:02x}")).collect()
@@ -17,6 +18,14 @@ fn told(bytes: &[u8]) -> String {
         }
         _ => hex(bytes),
     }
+}
+
+/// As `told`; of many bytes only the first.
+fn shortened(bytes: &[u8]) -> String {
+    if bytes.len() <= 16 {
+        return told(bytes);
+    }
+    format!("{} bytes {}..", bytes.len(), hex(&bytes[..8]))
 }
 
 fn command_name(code: u32) -> String {
@@ -92,19 +101,21 @@ fn mail(mail: &Mail) -> String {
         Some(_) => "wrong",
         None => "missing",
     };
-    let table = if mail.table.len() <= 16 {
-        told(&mail.table)
-    } else {
-        format!("{} bytes {}..", mail.table.len(), hex(&mail.table[..8]))
-    };
     format!(
-        "{}, caller {:#x}, verdict {}, table {table}, {} bytes, checksum {sum}: {}",
+        "{}, caller {:#x}, verdict {}, table {}, {} bytes, checksum {sum}: {}",
         command_name(mail.code),
         mail.caller,
         mail.verdict,
+        shortened(&mail.table),
         bytes.len(),
         told(bytes)
     )
+}
+
+/// A field with what it sets.
+fn field_name(field: u8, parts: &[&str]) -> String {
+    let part = parts.get(usize::from(field)).unwrap_or(&"no part");
+    format!("{field} ({part})")
 }
 
 /// An operation as one line.
@@ -119,11 +130,16 @@ pub fn operation(op: &Op) -> String {
         Op::Left => "L".into(),
         Op::Cut => "X".into(),
         Op::Set { field, value } => {
-            let part = ["position", "first index", "second index", "answer length"];
-            let part = part.get(usize::from(*field)).unwrap_or(&"no part");
-            format!("W {field} ({part}) = {value}")
+            let parts = ["position", "first index", "second index", "answer length"];
+            format!("W {} = {value}", field_name(*field, &parts))
         }
         Op::Dump => "D".into(),
+        Op::Begin => "b".into(),
+        Op::Feed(slice) => format!("f {}", shortened(slice)),
+        Op::Finish => "e".into(),
+        Op::SetCount { field, value } => {
+            format!("w {} = {value}", field_name(*field, &["total", "waiting"]))
+        }
     }
 }
 
@@ -167,6 +183,16 @@ impl Output<'_> {
     pub fn of(&mut self, op: &Op) -> Option<Written> {
         Some(Written::Text(match op {
             Op::Image(_) | Op::Cut | Op::Set { .. } => String::new(),
+            Op::Begin | Op::SetCount { .. } => String::new(),
+            Op::Feed(_) => match self.number()? {
+                0 => "accepted".into(),
+                number => refused(number),
+            },
+            Op::Finish => {
+                let number = self.number()?;
+                let digest = self.take(DIGEST_BYTES)?;
+                format!("number {}, digest {}", refusal(number), told(&digest))
+            }
             Op::Cold(_) | Op::Update(..) => match self.number()? {
                 0 => {
                     let outcome = self.take(1)?[0];

@@ -1,6 +1,6 @@
 //! Engines that are wrong on purpose, to show that the scripts would tell.
 //!
-//! Each has the paper's rules but for the methods that stand below its name.
+//! Each has the papers' rules but for the methods that stand below its name.
 //! A method that calls `Paper` alters what the right rule is given, or what it
 //! gives.
 
@@ -10,6 +10,7 @@ mod empty;
 mod memory;
 mod program;
 mod requests;
+mod running;
 mod shortcuts;
 mod stash;
 mod works;
@@ -52,6 +53,7 @@ pub const GROUPS: &[Group] = &[
     group("Stash", stash::ENGINES),
     group("Boots", boots::ENGINES),
     group("Works by value", works::ENGINES),
+    group("The running digest", running::ENGINES),
     Group {
         of_program: true,
         ..group("The small program", program::ENGINES)

@@ -1,4 +1,5 @@
-//! 01's bench cards, the small program and the two odd images.
+//! 01's bench cards, the small program and the two odd images; 02's cards of
+//! the running digest.
 
 use reference::boots::Inputs;
 use reference::checksum::{checksum, sealed};
@@ -9,7 +10,8 @@ use reference::mailbox::{booted, mailbox, BOOTED_WITH};
 use reference::memory::Memory;
 use reference::player::Player;
 use reference::requests::Request;
-use reference::script::{encode, BootBytes, Mail, Op};
+use reference::running::Running;
+use reference::script::{encode, BootBytes, Mail, Op, TOTAL, WAITING};
 use reference::sha384::digest;
 use reference::work::{Kind, Work};
 
@@ -492,4 +494,175 @@ fn a_kept_boot_stores_nothing() {
     let (kept, outcome) = update(&booted(), false);
     assert_eq!((kept.kind, outcome), (Kind::Nothing, KEPT));
     assert_eq!((ENGINE.works.number(&kept), ENGINE.left(&kept)), (0, 0));
+}
+
+// The running digest.
+
+static LONG: [u8; 65_536] = [6; 65_536];
+
+/// A digest begun and fed letters, its counts then set from outside.
+fn bent(letters: usize, total: u64, waiting: u64) -> Running {
+    let mut running = Running::begun();
+    assert_eq!(ENGINE.feed(&mut running, &vec![b'a'; letters]), 0);
+    (running.total, running.waiting) = (total, waiting);
+    running
+}
+
+/// A feed with that number, which leaves a refused digest as it stood.
+fn gives(running: &Running, slice: &[u8], number: u32) {
+    let mut after = running.clone();
+    assert_eq!(ENGINE.feed(&mut after, slice), number);
+    assert_eq!(after == *running, number != 0 || slice.is_empty());
+}
+
+/// Every feed and a finish get 27, the finish with zeros.
+fn disagrees(running: &Running) {
+    for slice in [&[][..], &[1], &LONG[..65_535], &LONG] {
+        gives(running, slice, 27);
+    }
+    assert_eq!(ENGINE.finish(running), (27, [0; 48]));
+}
+
+#[test]
+fn counts_that_disagree() {
+    assert_eq!(ENGINE.finish(&bent(128, 128, 0)).0, 0);
+    disagrees(&bent(128, 128, 128));
+    disagrees(&bent(0, 0, 128));
+    disagrees(&bent(130, 130, 1));
+    disagrees(&bent(130, 130, 3));
+    disagrees(&bent(130, 131, 2));
+    disagrees(&bent(130, 130, 130));
+    disagrees(&bent(130, 130, 2 + 64));
+    disagrees(&bent(130, 130, (1 << 32) + 2));
+    disagrees(&bent(130, 130, u64::MAX));
+}
+
+#[test]
+fn totals_up_to_the_greatest_and_beyond() {
+    let full = bent(255, u64::from(u32::MAX), 127);
+    assert_eq!(ENGINE.finish(&full).0, 0);
+    gives(&full, &[], 0);
+    gives(&full, &[1], 16);
+    gives(&full, &LONG[..65_535], 16);
+    disagrees(&bent(256, 1 << 32, 0));
+    disagrees(&bent(130, (1 << 32) + 2, 2));
+    disagrees(&bent(255, u64::MAX, 127));
+    // The last slice may be of any length that fits.
+    let near = bent(128, (1 << 32) - 65_536, 0);
+    gives(&near, &LONG[..65_535], 0);
+    let nearer = bent(129, (1 << 32) - 65_535, 1);
+    gives(&nearer, &LONG[..65_534], 0);
+    gives(&nearer, &LONG[..65_535], 16);
+}
+
+#[test]
+fn twenty_seven_before_ten_before_sixteen() {
+    let full = u64::from(u32::MAX);
+    // Each line has the faults of the one below it, and one more.
+    gives(&bent(255, full, 126), &LONG, 27);
+    gives(&bent(255, full, 127), &LONG, 10);
+    gives(&bent(255, full, 127), &LONG[..65_535], 16);
+    // Two of the three.
+    gives(&bent(130, 130, 3), &LONG, 27);
+    gives(&bent(255, full, 126), &[1], 27);
+    gives(&bent(130, 130, 2), &LONG, 10);
+    gives(&bent(130, 130, 2), &LONG[..65_535], 0);
+}
+
+/// What a script writes; the books have to agree.
+fn played(script: &[u8]) -> Vec<u8> {
+    let mut player = Player::new(ENGINE);
+    player.run(script).expect("the books agree");
+    player.output().to_vec()
+}
+
+fn hex(bytes: &[u8]) -> String {
+    bytes.iter().map(|byte| format!("{byte:02x}")).collect()
+}
+
+/// Digests of a finish, as FIPS 180-4 and the machine's `sha384sum` give them.
+const ABC: &str = "cb00753f45a35e8bb5a03d699ac65007272c32ab0eded163\
+                   1a8b605a43ff5bed8086072ba1e7cc2358baeca134c825a7";
+const EMPTY: &str = "38b060a751ac96384cd9327eb1b1e36a21fdb71114be0743\
+                     4c0cc7bf63f6e1da274edebfe76f65fbd51ad2f14898b95b";
+const AB: &str = "c7be03ba5bcaa384727076db0018e99248e1a6e8bd1b9ef5\
+                  8a9ec9dd4eeebb3f48b836201221175befa74ddc3d35afdd";
+const ABC_AND_A_ZERO: &str = "eba81f2dfba4ec60d3f786c89d91b08e6c0b63d559868743\
+                              78e385e6fac587cce7a520ca9437290fe626cbf75c855e17";
+const LETTERS_AND_ZEROS: &str = "7a3670fee0054a0b9e5b60f94c39e00a5b7a6956784bfc7a\
+                                 57ee9e213c819c7a1a1da22a44669b9094163985ce5170de";
+
+const FINE: &str = "00000000";
+
+#[test]
+fn the_operations_of_the_running_digest() {
+    // One just begun at the start; finished twice; begun again.
+    let script = b"ef\x02\0\0\0abeef\0\0\0\0f\x01\0\0\0cebe";
+    let expected = [
+        FINE, EMPTY, FINE, FINE, AB, FINE, AB, FINE, FINE, FINE, ABC, FINE, EMPTY,
+    ];
+    assert_eq!(hex(&played(script)), expected.concat());
+}
+
+#[test]
+fn nothing_else_touches_the_running_digest() {
+    let boot = BootBytes {
+        digest: vec![1; 48],
+        secret: vec![2; 48],
+    };
+    let feed = |slice: &[u8]| Op::Feed(slice.to_vec());
+    let mut player = Player::new(ENGINE);
+    let others = [
+        Op::Image(vec![7; IMAGE_WORDS]),
+        Op::Cold(boot.clone()),
+        Op::Store(5),
+        Op::Cut,
+        Op::Update(boot, 1),
+        Op::Store(3),
+        Op::Image(vec![]),
+    ];
+    player.operate(feed(b"ab")).unwrap();
+    for other in others {
+        let (running, image) = (player.running().clone(), player.image().to_vec());
+        let work = player.work().cloned();
+        for op in [feed(b""), Op::Finish] {
+            player.operate(op).unwrap();
+        }
+        assert_eq!((player.image(), player.work()), (&image[..], work.as_ref()));
+        player.operate(other).unwrap();
+        assert_eq!(*player.running(), running);
+    }
+    for op in [feed(b"c"), Op::Finish] {
+        player.operate(op).unwrap();
+    }
+    assert_eq!(hex(&player.output()[player.output().len() - 48..]), ABC);
+}
+
+/// What a finish writes after letters were fed and counts set.
+fn finished(letters: &[u8], counts: &[(u8, u64)]) -> String {
+    let mut script = vec![Op::Feed(letters.to_vec())];
+    let sets = counts.iter().copied();
+    script.extend(sets.map(|(field, value)| Op::SetCount { field, value }));
+    script.push(Op::Finish);
+    hex(&played(&encode(&script)))
+}
+
+#[test]
+fn counts_that_are_set() {
+    let abc = [FINE, FINE, ABC].concat();
+    assert_eq!(finished(b"abc", &[(2, 9), (255, 9)]), abc);
+    assert_eq!(finished(b"abc", &[(TOTAL, 3), (WAITING, 3)]), abc);
+    let refused = [FINE, "1b000000", &"00".repeat(48)].concat();
+    assert_eq!(finished(b"abc", &[(TOTAL, 4)]), refused);
+    assert_eq!(finished(b"abc", &[(WAITING, 4)]), refused);
+    assert_eq!(finished(b"abc", &[(TOTAL, (1 << 32) + 3)]), refused);
+    // The bytes behind the waiting ones are zeros.
+    assert_eq!(
+        finished(b"abc", &[(TOTAL, 4), (WAITING, 4)]),
+        [FINE, FINE, ABC_AND_A_ZERO].concat()
+    );
+    assert_eq!(
+        finished(&[b'a'; 130], &[(WAITING, 7), (TOTAL, 135)]),
+        [FINE, FINE, LETTERS_AND_ZEROS].concat()
+    );
 }

@@ -2,10 +2,11 @@
 
 use reference::book::wrong::BOOKS;
 use reference::engine::Engine;
-use reference::generate::{program_input, script};
+use reference::generate::{cuts, fixed_inputs, program_input, script};
 use reference::layout::*;
 use reference::player::{Player, Seen, NONE_IN_HAND};
-use reference::script::{Op, LENT_WORDS, LETTERS};
+use reference::script::{Op, Reader, INPUT_BYTES, LENT_WORDS, LETTERS};
+use reference::sha384::BLOCK_BYTES;
 use reference::wrong::{caught, GROUPS};
 use std::collections::BTreeSet;
 
@@ -27,6 +28,8 @@ fn seen() -> Seen {
         all.damaged_works += seen.damaged_works;
         all.looks += seen.looks;
         all.looks_after_tears += seen.looks_after_tears;
+        all.waiting.extend(seen.waiting);
+        all.digests += seen.digests;
     }
     all
 }
@@ -47,6 +50,8 @@ fn the_first_scripts_reach_everything() {
     // 1 at a store is out of a script's reach: an image takes the work along.
     assert_eq!(numbers('S'), [0, 9]);
     assert_eq!(numbers('A'), [0, 7, 8, NONE_IN_HAND]);
+    assert_eq!(numbers('f'), [0, 10, 16, 27]);
+    assert_eq!(numbers('e'), [0, 27]);
     let kinds: Vec<_> = seen.kinds.iter().copied().collect();
     assert_eq!(
         kinds,
@@ -75,6 +80,11 @@ fn the_first_scripts_reach_everything() {
     assert!(seen.damaged_works > 500, "{}", seen.damaged_works);
     assert!(seen.looks > 1_000, "{}", seen.looks);
     assert!(seen.looks_after_tears > 300, "{}", seen.looks_after_tears);
+    assert!(seen.digests > 2_000, "{}", seen.digests);
+    for waiting in 0..BLOCK_BYTES as u64 {
+        assert!(seen.waiting.iter().any(|&(before, _)| before == waiting));
+        assert!(seen.waiting.iter().any(|&(_, after)| after == waiting));
+    }
 }
 
 #[test]
@@ -85,7 +95,8 @@ fn the_first_scripts_hold_every_length_and_letter() {
     let mut tails = BTreeSet::new();
     for seed in 0..SEEDS {
         let script = script(seed);
-        assert!(script.bytes().len() < 25_000, "seed {seed}");
+        assert!(short_bytes(&script.ops) < 25_000, "seed {seed}");
+        assert!(script.bytes().len() < 400_000, "seed {seed}");
         assert_eq!(script.ops.last(), Some(&Op::Dump));
         for op in &script.ops {
             letters.insert(op.letter());
@@ -109,7 +120,95 @@ fn the_first_scripts_hold_every_length_and_letter() {
         .iter()
         .all(|length| images.contains(length)));
     assert!(tails.iter().any(|letter| !LETTERS.contains(letter)));
-    assert!(b"ICURSAW".iter().all(|letter| tails.contains(letter)));
+    assert!(b"ICURSAWfw".iter().all(|letter| tails.contains(letter)));
+}
+
+/// The bytes of a script but for slices of about the greatest length.
+fn short_bytes(ops: &[Op]) -> usize {
+    let is_long = |op: &Op| matches!(op, Op::Feed(slice) if slice.len() >= SLICE_BYTES);
+    let short = ops.iter().filter(|op| !is_long(op));
+    short.map(|op| op.bytes().len()).sum()
+}
+
+/// The lengths of slices that were fed one after the other between a begin and
+/// a finish.
+fn fed(ops: &[Op]) -> BTreeSet<Vec<usize>> {
+    let mut found = BTreeSet::new();
+    let mut lengths = None;
+    for op in ops {
+        lengths = match (op, lengths) {
+            (Op::Begin, _) => Some(vec![]),
+            (Op::Feed(slice), Some(before)) => Some([before, vec![slice.len()]].concat()),
+            (Op::Finish, Some(all)) => {
+                found.insert(all);
+                None
+            }
+            _ => None,
+        };
+    }
+    found
+}
+
+#[test]
+fn the_first_scripts_hold_every_cut_in_two() {
+    let scripts = (0..SEEDS).flat_map(|seed| fed(&script(seed).ops));
+    let found: BTreeSet<Vec<usize>> = scripts.collect();
+    for (length, cut) in cuts() {
+        assert!(
+            found.contains(&vec![cut, length - cut]),
+            "{cut} of {length}"
+        );
+    }
+}
+
+#[test]
+fn the_first_scripts_hold_slices_of_the_greatest_length() {
+    let mut lengths = BTreeSet::new();
+    for seed in 0..SEEDS {
+        for op in script(seed).ops {
+            if let Op::Feed(slice) = op {
+                lengths.insert(slice.len());
+            }
+        }
+    }
+    let near = [0, 1, 127, 128, 129, SLICE_BYTES, SLICE_BYTES + 1];
+    assert!(near.iter().all(|length| lengths.contains(length)));
+    assert!(lengths.last() > Some(&(SLICE_BYTES + 1)));
+}
+
+#[test]
+fn the_inputs_without_a_seed_hold_every_case() {
+    let mut found = BTreeSet::new();
+    let mut all = Seen::default();
+    for (place, input) in fixed_inputs().into_iter().enumerate() {
+        assert!(input.len() <= INPUT_BYTES + 1, "input {place}");
+        found.extend(fed(&Reader::new(&input).collect::<Vec<_>>()));
+        let mut player = Player::new(Engine::PAPER);
+        if let Err(why) = player.run(&input) {
+            panic!("input {place}: {why}");
+        }
+        all.numbers.extend(player.seen.numbers);
+        all.waiting.extend(player.seen.waiting);
+    }
+    assert!(cuts()
+        .iter()
+        .all(|&(length, cut)| found.contains(&vec![cut, length - cut])));
+    let length = BLOCK_BYTES + 2;
+    for first in 0..=length {
+        for second in 0..=length - first {
+            let third = length - first - second;
+            assert!(found.contains(&vec![first, second, third]));
+        }
+    }
+    let numbers = [
+        ('e', 0),
+        ('e', 27),
+        ('f', 0),
+        ('f', 10),
+        ('f', 16),
+        ('f', 27),
+    ];
+    assert!(all.numbers.iter().eq(&numbers));
 }
 
 #[test]

@@ -1,7 +1,8 @@
-//! The paper's figures as it states them. A request that changes one edits it
+//! The papers' figures as they state them. A request that changes one edits it
 //! here and in `layout`.
 
 use reference::layout::*;
+use reference::sha384::BLOCK_BYTES;
 
 #[test]
 fn the_image() {
@@ -41,4 +42,11 @@ fn the_commands() {
         ]
     );
     assert_eq!(rows.iter().map(|row| row.2).max(), Some(ANSWER_MAX));
+}
+
+#[test]
+fn the_running_digest() {
+    assert_eq!((SLICE_BYTES, TOTAL_BYTES), (65_535, 4_294_967_295));
+    assert_eq!(BLOCK_BYTES, 128);
+    assert_eq!((number::COUNTS, number::SLICE, number::TOTAL), (27, 10, 16));
 }

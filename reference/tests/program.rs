@@ -49,10 +49,10 @@ fn a_right_driver_passes() {
     assert!(output.status.success());
 }
 
-#[test]
-fn a_wrong_driver_is_shown_in_few_operations() {
-    let engine = program("wrong", "play MarkBeforeHandles");
-    let keep = folder("wrong").to_string_lossy().into_owned();
+/// What a campaign prints that finds a wrong engine.
+fn shown(name: &str) -> String {
+    let engine = program(name, &format!("play {name}"));
+    let keep = folder(name).to_string_lossy().into_owned();
     let words = [
         "campaign", "--engine", &engine, "--count", "64", "--keep", &keep,
     ];
@@ -61,7 +61,20 @@ fn a_wrong_driver_is_shown_in_few_operations() {
     assert_eq!(output.status.code(), Some(1), "{shown}");
     assert!(shown.contains("!! "), "{shown}");
     assert!(shown.contains(".small.script"), "{shown}");
+    shown
+}
+
+#[test]
+fn a_wrong_driver_is_shown_in_few_operations() {
+    let shown = shown("MarkBeforeHandles");
     assert!(shown.lines().count() < 30, "{shown}");
+}
+
+#[test]
+fn a_wrong_running_digest_is_shown_in_few_operations() {
+    let shown = shown("FinishBegins");
+    assert!(shown.contains("script fixed-0 differs"), "{shown}");
+    assert!(shown.lines().count() < 15, "{shown}");
 }
 
 #[test]

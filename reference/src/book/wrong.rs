@@ -1,11 +1,12 @@
 //! Books that are wrong on purpose: the right engine has to disagree with them.
 
+use super::slices::Slices;
 use super::{Book, Event, Look, Opened, State};
 use crate::boots::{Boots, Inputs};
 use crate::engine::Paper;
 use crate::requests::Request;
 
-/// How a book is kept.
+/// How the books are kept.
 pub trait Keeper {
     fn request(&self, book: &mut Book, request: Request) -> Opened {
         book.request(request)
@@ -22,9 +23,18 @@ pub trait Keeper {
     fn cut(&self, book: &mut Book) {
         book.cut();
     }
+
+    /// The book of a running digest that is begun; there may be one before it.
+    fn begin(&self, _before: Option<Slices>) -> Slices {
+        Slices::default()
+    }
+
+    fn feed(&self, slices: &mut Slices, slice: &[u8]) -> u32 {
+        slices.feed(slice)
+    }
 }
 
-/// Keeps the book as it is.
+/// Keeps the books as they are.
 pub struct Fair;
 
 impl Keeper for Fair {}
@@ -81,6 +91,21 @@ pub const BOOKS: &[WrongBook] = &[
         "UpdateForgotten",
         "a counted update is left out of the history",
         &Forgotten(|event| matches!(event, Event::Update(_))),
+    ),
+    book(
+        "BeginForgotten",
+        "a begin leaves the accepted slices in the list",
+        &BeginForgotten,
+    ),
+    book(
+        "SlicesSwapped",
+        "a slice joins in front of those before it",
+        &SlicesSwapped,
+    ),
+    book(
+        "RefusedSliceJoined",
+        "a refused slice joins the accepted ones",
+        &RefusedSliceJoined,
     ),
 ];
 
@@ -199,4 +224,35 @@ fn untorn(book: &mut Book, inputs: Inputs) {
 fn is_unstarted(book: &Book) -> bool {
     let hand = book.in_hand.as_ref();
     hand.is_some_and(|hand| hand.made == 0 && hand.left() > 0)
+}
+
+struct BeginForgotten;
+
+impl Keeper for BeginForgotten {
+    fn begin(&self, before: Option<Slices>) -> Slices {
+        before.unwrap_or_default()
+    }
+}
+
+struct SlicesSwapped;
+
+impl Keeper for SlicesSwapped {
+    fn feed(&self, slices: &mut Slices, slice: &[u8]) -> u32 {
+        let before = slices.joined.len();
+        let number = slices.feed(slice);
+        slices.joined.rotate_left(before);
+        number
+    }
+}
+
+struct RefusedSliceJoined;
+
+impl Keeper for RefusedSliceJoined {
+    fn feed(&self, slices: &mut Slices, slice: &[u8]) -> u32 {
+        let number = slices.feed(slice);
+        if number != 0 {
+            slices.joins(slice);
+        }
+        number
+    }
 }

@@ -1,20 +1,21 @@
 //! Ends of scripts: an operation cut short, an unknown letter, an image that
-//! is too long. Operations behind them must not be made.
+//! is too long, a slice longer than the input. Operations behind them must not
+//! be made.
 
 use super::Maker;
 use crate::layout::COLD_STORES;
-use crate::script::{Op, LENT_WORDS, LETTERS};
+use crate::script::{Op, LENT_WORDS, LETTERS, TOTAL};
 
 impl Maker {
     pub(super) fn broken_tail(&mut self) -> Vec<u8> {
-        match self.random.below(8) {
+        match self.random.below(9) {
             0 => {
-                let mut letter = self.random.below(256) as u8;
+                let any = self.random.below(256) as u8;
+                let near = self.random.pick(b"icursalxdwBFEZ\0\n");
+                let mut letter = self.random.pick(&[any, near]);
                 while LETTERS.contains(&letter) {
                     letter = letter.wrapping_add(1);
                 }
-                let near = self.random.pick(b"icursalxwd\0\nBEZ");
-                let letter = self.random.pick(&[letter, near]);
                 let mut tail = vec![letter];
                 tail.extend_from_slice(b"LDLD");
                 tail
@@ -31,10 +32,20 @@ impl Maker {
                 ]);
                 let mut tail = vec![b'I'];
                 tail.extend_from_slice(&count.to_le_bytes());
-                if count == long && self.size < 6_000 {
+                if count == long && self.size < 8_000 {
                     tail.resize(tail.len() + 4 * long as usize, 0);
                 }
                 tail.extend_from_slice(b"LDLD");
+                tail
+            }
+            2 => {
+                // A slice longer than what is left of the input.
+                let length = self
+                    .random
+                    .pick(&[5, 6, 255, 0x0001_0000, 0x8000_0000, u32::MAX]);
+                let mut tail = vec![b'f'];
+                tail.extend_from_slice(&length.to_le_bytes());
+                tail.extend_from_slice(b"eeDe");
                 tail
             }
             _ => {
@@ -52,7 +63,7 @@ impl Maker {
 
     fn any_op(&mut self) -> Op {
         let mark = self.ops.len();
-        match self.random.below(8) {
+        match self.random.below(10) {
             0 => {
                 let words = self.random.words(3);
                 self.push(Op::Image(words));
@@ -66,9 +77,18 @@ impl Maker {
                 field: 0,
                 value: 1 << 40,
             }),
+            7 => {
+                let slice = self.random.bytes(9);
+                self.push(Op::Feed(slice));
+            }
+            8 => self.push(Op::SetCount {
+                field: TOTAL,
+                value: 1 << 40,
+            }),
             _ => self.push_disable(),
         }
-        let op = self.ops[mark].clone();
+        // Another operation may have come before it.
+        let op = self.ops[self.ops.len() - 1].clone();
         self.ops.truncate(mark);
         op
     }

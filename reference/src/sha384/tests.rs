@@ -127,3 +127,13 @@ fn padding_takes_a_second_block_from_112_bytes_on() {
     assert_eq!(padded_tail(&[0; 111], 111).1, BLOCK_BYTES);
     assert_eq!(padded_tail(&[0; 112], 112).1, 2 * BLOCK_BYTES);
 }
+
+#[test]
+fn the_length_in_bits_may_pass_32_bits() {
+    let (tail, end) = padded_tail(&[], 1 << 29);
+    assert_eq!(tail[..2], [0x80, 0]);
+    assert_eq!(
+        tail[end - 16..end],
+        [0, 0, 0, 0, 0, 0, 0, 0, 0, 0, 0, 1, 0, 0, 0, 0]
+    );
+}

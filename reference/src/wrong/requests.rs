@@ -8,7 +8,7 @@ use crate::requests::{Accepted, Refusal, Request, Requests, Task, View};
 use crate::work::Work;
 
 /// Moves a number before another.
-fn before(mut order: Vec<Refusal>, number: u32, other: u32) -> Vec<Refusal> {
+pub(super) fn before(mut order: Vec<Refusal>, number: u32, other: u32) -> Vec<Refusal> {
     let place = |order: &[Refusal], wanted: u32| order.iter().position(|line| line.0 == wanted);
     if let (Some(from), Some(to)) = (place(&order, number), place(&order, other)) {
         let line = order.remove(from);

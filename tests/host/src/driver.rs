@@ -72,6 +72,35 @@ impl Script {
         self
     }
 
+    /// Begins a running digest.
+    pub fn begin(mut self) -> Self {
+        self.bytes.push(b'b');
+        self
+    }
+
+    /// Feeds the running digest a slice of any length.
+    pub fn feed(mut self, slice: &[u8]) -> Self {
+        let length = u32::try_from(slice.len()).expect("a slice of fewer than 2^32 bytes");
+        self.bytes.push(b'f');
+        self.bytes.extend(length.to_le_bytes());
+        self.bytes.extend(slice);
+        self
+    }
+
+    pub fn finish(mut self) -> Self {
+        self.bytes.push(b'e');
+        self
+    }
+
+    /// Sets the counts of the running digest.
+    pub fn counts(mut self, total: u64, waiting: u64) -> Self {
+        for (field, value) in [(0, total), (1, waiting)] {
+            self.bytes.extend([b'w', field]);
+            self.bytes.extend(value.to_le_bytes());
+        }
+        self
+    }
+
     /// Runs the driver on the script.
     pub fn run(&self) -> Replies {
         let output = run(&built_program("driver"), &self.bytes, Feed::Whole);
@@ -118,5 +147,16 @@ impl Replies {
 
     pub fn image(&mut self) -> Vec<u32> {
         (0..self.u32()).map(|_| self.u32()).collect()
+    }
+
+    /// The number of a finish, and its 48 bytes.
+    pub fn digest(&mut self) -> (u32, Vec<u8>) {
+        let number = self.u32();
+        (number, (0..48).map(|_| self.u8()).collect())
+    }
+
+    /// Whether everything that was written has been read.
+    pub fn are_read(&self) -> bool {
+        self.at == self.bytes.len()
     }
 }
