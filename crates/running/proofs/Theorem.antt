@@ -16,7 +16,7 @@ use Rattle.running.specs.declared.Fed.{Fed}
 use Rattle.running.specs.Steps.{Step, feed, finish, Result, fed, finished, results, numberAfter, doneAfter, told, Running-digest}
 use Rattle.running.proofs.States.{stateOf, begun-state, state-agrees, state-fed, state-concluded}
 
-number-same : (done m : List ℕ) → length done ≤ longestTotal → feedNumber (stateOf done) m ≡ numberAfter done m
+number-same : (done m : List ℕ) → length done ≤ longestTotal → feedNumber (stateOf done) (length m) ≡ numberAfter done m
 unfolding feedNumber numberAfter stateOf
 number-same done m h = rw (state-agrees done h)
 
@@ -28,7 +28,7 @@ within done m false true p q h = h
 within done m false false p q h = omega (arith, ltb-false longestTotal (length done + length m) q, length-append done m)
 
 -- what a feed leaves: the state after the bytes accepted
-fed-state : (done m : List ℕ) (n : ℕ) → feedNumber (stateOf done) m ≡ n → feedResult (stateOf done) m .state ≡ stateOf (cond (eqb n 0) (done ++ m) done)
+fed-state : (done m : List ℕ) (n : ℕ) → feedNumber (stateOf done) (length m) ≡ n → feedResult (stateOf done) m .state ≡ stateOf (cond (eqb n 0) (done ++ m) done)
 unfolding feedResult
 fed-state done m n e = rw e (by-number (eqb n 0))
   where
@@ -37,7 +37,7 @@ fed-state done m n e = rw e (by-number (eqb n 0))
     by-number true = state-fed done m
     by-number false = refl
 
-fed-number : (st : Running) (m : List ℕ) (n : ℕ) → feedNumber st m ≡ n → feedResult st m .number ≡ n
+fed-number : (st : Running) (m : List ℕ) (n : ℕ) → feedNumber st (length m) ≡ n → feedResult st m .number ≡ n
 unfolding feedResult
 fed-number st m n e = rw e (by-number (eqb n 0) refl)
   where
@@ -52,11 +52,11 @@ finish-told done h = rw (state-agrees done h) (ap (λ (b : List ℕ). record { n
 -- a refused feed leaves the state as it stood
 pub feed-stays : (st : Running) (m : List ℕ) → eqb (feedResult st m .number) 0 ≡ false → st ≡ feedResult st m .state
 unfolding feedResult
-feed-stays st m e = by (eqb (feedNumber st m) 0) refl e
+feed-stays st m e = by (eqb (feedNumber st (length m)) 0) refl e
   where
-    by : (b : Bool) → eqb (feedNumber st m) 0 ≡ b
-        → eqb (cond {A = Fed} b (record { number = 0; state = fedOf st m }) (record { number = feedNumber st m; state = st }) .number) 0 ≡ false
-        → st ≡ cond {A = Fed} b (record { number = 0; state = fedOf st m }) (record { number = feedNumber st m; state = st }) .state
+    by : (b : Bool) → eqb (feedNumber st (length m)) 0 ≡ b
+        → eqb (cond {A = Fed} b (record { number = 0; state = fedOf st m }) (record { number = feedNumber st (length m); state = st }) .number) 0 ≡ false
+        → st ≡ cond {A = Fed} b (record { number = 0; state = fedOf st m }) (record { number = feedNumber st (length m); state = st }) .state
     by true p q = absurd (true≢false q)
     by false p q = refl
 

@@ -27,9 +27,10 @@ begun = record { total = 0; waiting = 0; buffer = replicate 128 0; hash = hashWo
 unfoldable pub agrees : Running → Bool
 agrees st = eqb (st .waiting) (st .total % 128) && leb (st .total) longestTotal
 
--- "In this order": 27 counts that disagree or a larger total, 10 a longer slice, 16 a total that would be larger; else 0
-unfoldable pub feedNumber : Running → List ℕ → ℕ
-feedNumber st m = cond (not (agrees st)) 27 (cond (ltb longest (length m)) 10 (cond (ltb longestTotal (st .total + length m)) 16 0))
+-- a feed's number for a slice of n bytes, "In this order": 27 counts that disagree or a larger total, 10 a longer slice, 16 a total that would be
+-- larger; else 0
+unfoldable pub feedNumber : Running → ℕ → ℕ
+feedNumber st n = cond (not (agrees st)) 27 (cond (ltb longest n) 10 (cond (ltb longestTotal (st .total + n)) 16 0))
 
 -- the bytes that wait, and the slice behind them
 abbrev pub waitingThen : Running → List ℕ → List ℕ
@@ -48,9 +49,9 @@ fedOf st m =
 -- feed: the state "stays as it stood" where it is refused
 unfoldable pub feedResult : Running → List ℕ → Fed
 feedResult st m =
-    cond (eqb (feedNumber st m) 0)
+    cond (eqb (feedNumber st (length m)) 0)
     (record { number = 0; state = fedOf st m })
-    (record { number = feedNumber st m; state = st })
+    (record { number = feedNumber st (length m); state = st })
 
 -- finish: the digest, or 27 "with 48 zero bytes"
 unfoldable pub finishResult : Running → DigestResult

@@ -2,7 +2,7 @@
 ghost use mathlib.Core.Path.{_≡_};
 ghost use Prim.Native.Nat.{_+_, _≤_, _<_};
 ghost use lib.ListN.{length};
-ghost use Rattle.running.specs.Running.{longestTotal, begun, agrees, feedResult, fedOf, finishResult};
+ghost use Rattle.running.specs.Running.{longestTotal, begun, agrees, feedNumber, feedResult, fedOf, finishResult};
 use sha_block::blocks::absorb;
 use sha384::constants::K;
 use sha384::constants::initial;
@@ -84,16 +84,45 @@ impl Running {
         let mut hash = self.hash;
         absorb(&k, &mut hash, &block);
         absorb(&k, &mut hash, &slice[fill..]);
+        let total = self.total + (n as u64);
         let left = (n - fill) % 128;
         let from = n - left;
         let mut buffer = [0u8; 128];
         bytes::copy(&slice[from..], &mut buffer);
         Running {
-            total: self.total + (n as u64),
+            total,
             waiting: left as u64,
             buffer,
             hash,
         }
+    }
+
+    // Why a slice of n bytes is refused, or 0.
+    fn refusal(self, n: usize) -> u32
+        ensures { λ r. ⌜ r ≡ feedNumber self n ⌝ }
+    {
+        let agreed = self.agrees();
+        if !agreed {
+            return 27;
+        }
+        if n > LONGEST {
+            return 10;
+        }
+        if self.total + (n as u64) > LONGEST_TOTAL {
+            return 16;
+        }
+        0
+    }
+
+    // The state after a slice that is not refused.
+    fn fed(self, slice: &[u8]) -> Running
+        requires { ⌜ feedNumber self (length (now slice)) ≡ 0 ⌝ }
+        ensures { λ r. ⌜ r ≡ fedOf self (now (slice .entry)) ⌝ }
+    {
+        if self.waiting + (slice.len() as u64) < 128 {
+            return self.kept(slice);
+        }
+        self.absorbed(slice)
     }
 
     // Takes one slice more. Refused, with the state as it was: 27, counts that disagree or a total
@@ -101,30 +130,14 @@ impl Running {
     pub fn feed(self, slice: &[u8]) -> Fed
         ensures { λ r. ⌜ r ≡ feedResult self (now (slice .entry)) ⌝ }
     {
-        if !self.agrees() {
+        let number = self.refusal(slice.len());
+        if number != 0 {
             return Fed {
-                number: 27,
+                number,
                 state: self,
             };
         }
-        let n = slice.len();
-        if n > LONGEST {
-            return Fed {
-                number: 10,
-                state: self,
-            };
-        }
-        if self.total + (n as u64) > LONGEST_TOTAL {
-            return Fed {
-                number: 16,
-                state: self,
-            };
-        }
-        if self.waiting + (n as u64) < 128 {
-            let state = self.kept(slice);
-            return Fed { number: 0, state };
-        }
-        let state = self.absorbed(slice);
+        let state = self.fed(slice);
         Fed { number: 0, state }
     }
 
@@ -133,7 +146,8 @@ impl Running {
     pub fn finish(self) -> DigestResult
         ensures { λ r. ⌜ r ≡ finishResult self ⌝ }
     {
-        if !self.agrees() {
+        let agreed = self.agrees();
+        if !agreed {
             return DigestResult {
                 number: 27,
                 bytes: [0u8; 48],

@@ -62,6 +62,9 @@ part-absorb-end c = search needs
 absorb-requires-2 : tie.Need-absorb-requires-2
 absorb-requires-2 c κs = tt
 
+add-total : tie.Need-add-total
+add-total c = search needs
+
 sub-left : tie.Need-sub-left
 sub-left c = search needs
 
@@ -83,14 +86,11 @@ slice-aggregate-copy-2 c = search needs
 copy-requires-2 : tie.Need-copy-requires-2
 copy-requires-2 c κs = search needs
 
-add-t37 : tie.Need-add-t37
-add-t37 c = search needs
-
 returns : tie.Need-returns
 unfolding constants
 returns c =
-    let rest = c .before .before in
-    let second = rest .before .before .before in
+    let rest = c .before in
+    let second = rest .before .before .before .before in
     let first = second .before .before .before .before in
     let copied = first .before .before .before .before .before .before in
     let g = copied .before .before .before .before .before in
@@ -124,6 +124,7 @@ absorbed-spec =
     part-absorb-start
     part-absorb-end
     absorb-requires-2
+    add-total
     sub-left
     sub-from
     sub-copy-2
@@ -131,5 +132,4 @@ absorbed-spec =
     part-copy-end
     slice-aggregate-copy-2
     copy-requires-2
-    add-t37
     returns)
