@@ -146,8 +146,7 @@ impl Running {
     pub fn finish(self) -> DigestResult
         ensures { λ r. ⌜ r ≡ finishResult self ⌝ }
     {
-        let agreed = self.agrees();
-        if !agreed {
+        if !self.agrees() {
             return DigestResult {
                 number: 27,
                 bytes: [0u8; 48],
