@@ -29,7 +29,12 @@ static void (*measured)(void);
 
 static uint32_t image[WAGGLELOFT_IMAGE_WORDS], work[WAGGLELOFT_WORK_WORDS], outcome;
 static uint8_t digest[48], secret[48], request[196], handoff[2048], buffer[WAGGLELOFT_ANSWER_LONGEST], message[65535];
+static uint8_t state[WAGGLELOFT_SHA384_STATE_BYTES], whole[WAGGLELOFT_SHA384_BYTES];
 static size_t written;
+
+/* The first slice of a running digest leaves its bytes waiting; the second fills their block and leaves a rest. */
+#define SHORT_SLICE 100
+#define LONG_SLICE 1000
 
 static void trampoline(void) { called(); }
 
@@ -57,6 +62,10 @@ static void store(void) { CALL(waggleloft_store)(work, WAGGLELOFT_WORK_WORDS, im
 static void left(void) { CALL(waggleloft_left)(work, WAGGLELOFT_WORK_WORDS); }
 static void answer(void) { CALL(waggleloft_answer)(work, WAGGLELOFT_WORK_WORDS, buffer, sizeof buffer, &written); }
 static void sha384(void) { CALL(waggleloft_sha384)(message, sizeof message, buffer, sizeof buffer); }
+static void begin(void) { CALL(waggleloft_sha384_begin)(state, sizeof state); }
+static void feed_short(void) { CALL(waggleloft_sha384_feed)(state, sizeof state, message, SHORT_SLICE); }
+static void feed_long(void) { CALL(waggleloft_sha384_feed)(state, sizeof state, message + SHORT_SLICE, LONG_SLICE); }
+static void finish(void) { CALL(waggleloft_sha384_finish)(state, sizeof state, buffer, sizeof buffer); }
 static void checksum(void) { CALL(waggleloft_checksum)(1, message, sizeof message); }
 
 static void show(const char *name, size_t deepest) { printf("%6zu  %s\n", deepest, name); }
@@ -89,6 +98,17 @@ static size_t deepest_store(void)
     return deepest;
 }
 
+/* The running digest of two slices; whether it came to the digest of both in one piece. */
+static bool show_running(void)
+{
+    show("waggleloft_sha384_begin", DEPTH(waggleloft_sha384_begin, begin));
+    show("waggleloft_sha384_feed, a slice that waits", DEPTH(waggleloft_sha384_feed, feed_short));
+    show("waggleloft_sha384_feed, a slice that fills the block and leaves a rest", DEPTH(waggleloft_sha384_feed, feed_long));
+    show("waggleloft_sha384_finish", DEPTH(waggleloft_sha384_finish, finish));
+    return waggleloft_sha384(message, SHORT_SLICE + LONG_SLICE, whole, sizeof whole) == WAGGLELOFT_OK &&
+           memcmp(buffer, whole, sizeof whole) == 0;
+}
+
 int main(void)
 {
     static const uint32_t marker = 0x54484643;
@@ -109,5 +129,5 @@ int main(void)
     show("waggleloft_left", DEPTH(waggleloft_left, left));
     show("waggleloft_sha384, of 65,535 bytes", DEPTH(waggleloft_sha384, sha384));
     show("waggleloft_checksum", DEPTH(waggleloft_checksum, checksum));
-    return written == WAGGLELOFT_ANSWER_LONGEST ? 0 : 1;
+    return show_running() && written == WAGGLELOFT_ANSWER_LONGEST ? 0 : 1;
 }

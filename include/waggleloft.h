@@ -20,18 +20,20 @@
  *   - no pointer is null, even where its length is 0;
  *   - what a function writes overlaps nothing else that is passed to it.
  * Nothing else is asked. Every length, every content and every number has a
- * defined result, also the words of a work that no opening made; and a call
- * that hands back another number than WAGGLELOFT_OK has written nothing.
+ * defined result, also the words of a work that no opening made and the bytes
+ * of a state that no begin made; and a call that hands back another number than
+ * WAGGLELOFT_OK has written nothing.
  *
  * Platform: x86-64 with the System V calling convention, as today's toolchain
  * compiles for nothing else. The archive needs memcpy, uses SSE2 registers,
  * expects the stack aligned to 16 bytes at a call, and uses the 128 bytes below
  * the stack pointer (the red zone): an interrupt that comes on the same stack
  * must leave them alone, and must keep the SSE registers. The deepest stack is
- * below 3,000 bytes, of a request's opening; below 1,500 of the digest, and 40
- * bytes of a store (bench/stack works out each). No function allocates, keeps
- * state, has a global variable, waits or throws, so several threads may call
- * them at the same time on different buffers.
+ * below 3,000 bytes, of a request's opening; below 1,500 of the digest, below
+ * 1,700 of the running digest, and 40 bytes of a store (bench/stack works out
+ * each). No function allocates, keeps state, has a global variable, waits or
+ * throws, so several threads may call them at the same time on different
+ * buffers.
  */
 #ifndef WAGGLELOFT_H
 #define WAGGLELOFT_H
@@ -68,12 +70,27 @@ extern "C" {
 /* Bytes of a SHA-384 digest, and of a boot's digest and secret. */
 #define WAGGLELOFT_SHA384_BYTES 48
 
-/* The longest message, in bytes, that waggleloft_sha384 takes. */
+/*
+ * The longest message, in bytes, that waggleloft_sha384 takes, and the longest
+ * slice of a running digest.
+ */
 #define WAGGLELOFT_SHA384_LONGEST 65535
 
-/* The two sizes that the archive was built with, to compare with the macros. */
+/*
+ * Bytes of a running digest's state: every length of a state that is passed
+ * below is this one. What they hold is the core's business. The number may
+ * change with a later version; waggleloft_sha384_state_bytes() is the archive's
+ * own.
+ */
+#define WAGGLELOFT_SHA384_STATE_BYTES 208
+
+/* The most bytes that a running digest takes, all slices together: 2^32 - 1. */
+#define WAGGLELOFT_SHA384_TOTAL_LONGEST UINT64_C(0xFFFFFFFF)
+
+/* The sizes that the archive was built with, to compare with the macros. */
 size_t waggleloft_work_words(void);
 size_t waggleloft_image_words(void);
+size_t waggleloft_sha384_state_bytes(void);
 
 /* ---- Numbers that the functions hand back ---- */
 
@@ -87,9 +104,12 @@ size_t waggleloft_image_words(void);
 #define WAGGLELOFT_STORES_LEFT UINT32_C(7)      /* no answer before the last store */
 #define WAGGLELOFT_SHORT_BUFFER UINT32_C(8)     /* buffer shorter than the answer, or than 48 bytes */
 #define WAGGLELOFT_NO_STORE_LEFT UINT32_C(9)    /* the work has no store left */
-#define WAGGLELOFT_LONG_MESSAGE UINT32_C(10)    /* message longer than 65,535 bytes */
+#define WAGGLELOFT_LONG_MESSAGE UINT32_C(10)    /* message or slice longer than 65,535 bytes */
 #define WAGGLELOFT_NOT_WELL_FORMED UINT32_C(11) /* the image's nodes are not well formed (stash) */
+#define WAGGLELOFT_LONG_TOTAL UINT32_C(16)      /* all slices together would pass 2^32 - 1 bytes */
+#define WAGGLELOFT_WRONG_COUNTS UINT32_C(27)    /* the state's counts disagree, or its total is too large */
 #define WAGGLELOFT_WRONG_WORK UINT32_C(28)      /* the work is not WAGGLELOFT_WORK_WORDS words */
+#define WAGGLELOFT_WRONG_STATE UINT32_C(28)     /* the state is not WAGGLELOFT_SHA384_STATE_BYTES bytes */
 #define WAGGLELOFT_BAD_CHECKSUM UINT32_C(0x4243484B)  /* the request's checksum is wrong */
 #define WAGGLELOFT_BAD_SIGNATURE UINT32_C(0x42534947) /* the verdict on a signature is no (verify) */
 
@@ -223,6 +243,67 @@ uint32_t waggleloft_answer(const uint32_t *work, size_t work_len,
  */
 uint32_t waggleloft_sha384(const uint8_t *message, size_t message_len,
                            uint8_t *buffer, size_t buffer_len);
+
+/*
+ * A running digest: SHA-384 of bytes that come in slices, such as an update that
+ * is too long for waggleloft_sha384. Begin once, feed each slice in its order,
+ * finish. The digest is that of the accepted slices joined, wherever they were
+ * cut, empty ones too.
+ *
+ *     uint8_t state[WAGGLELOFT_SHA384_STATE_BYTES], digest[WAGGLELOFT_SHA384_BYTES];
+ *     waggleloft_sha384_begin(state, sizeof state);
+ *     while ((n = next_slice(slice)) > 0)
+ *         if (waggleloft_sha384_feed(state, sizeof state, slice, n) != WAGGLELOFT_OK)
+ *             return false;
+ *     return waggleloft_sha384_finish(state, sizeof state, digest, sizeof digest) == WAGGLELOFT_OK;
+ *
+ * The state is the caller's: it may be copied, and kept for as long as the
+ * archive stays the same. Any WAGGLELOFT_SHA384_STATE_BYTES bytes are a state:
+ * damaged ones lead to WAGGLELOFT_WRONG_COUNTS or to a wrong digest, and to
+ * nothing worse. Guard a state as you guard the bytes that it stands for.
+ */
+
+/*
+ * Begins: state is that of no bytes, whatever it held.
+ *
+ * Handed back, the first that applies:
+ *   WAGGLELOFT_WRONG_STATE  state_len is not WAGGLELOFT_SHA384_STATE_BYTES; state stays as it was
+ *   WAGGLELOFT_OK           otherwise
+ */
+uint32_t waggleloft_sha384_begin(uint8_t *state, size_t state_len);
+
+/*
+ * Feeds the slice_len bytes at slice, which may be none.
+ *
+ * Handed back, the first that applies:
+ *   WAGGLELOFT_WRONG_STATE   state_len is not WAGGLELOFT_SHA384_STATE_BYTES
+ *   WAGGLELOFT_WRONG_COUNTS  the counts in the state disagree, or its total is above
+ *                            WAGGLELOFT_SHA384_TOTAL_LONGEST, which no feeding leads to
+ *   WAGGLELOFT_LONG_MESSAGE  slice_len > WAGGLELOFT_SHA384_LONGEST
+ *   WAGGLELOFT_LONG_TOTAL    the total would be above WAGGLELOFT_SHA384_TOTAL_LONGEST
+ *   WAGGLELOFT_OK            otherwise
+ *
+ * If the slice is refused, state stays as it was, and the slice is not in the
+ * digest.
+ */
+uint32_t waggleloft_sha384_feed(uint8_t *state, size_t state_len,
+                                const uint8_t *slice, size_t slice_len);
+
+/*
+ * The digest of all bytes fed so far, into the first 48 bytes of the buffer;
+ * every later byte of it stays. The state is only read: it may be finished
+ * again, and feeding may go on.
+ *
+ * Handed back, the first that applies:
+ *   WAGGLELOFT_WRONG_STATE   state_len is not WAGGLELOFT_SHA384_STATE_BYTES
+ *   WAGGLELOFT_WRONG_COUNTS  as of a feed
+ *   WAGGLELOFT_SHORT_BUFFER  buffer_len < WAGGLELOFT_SHA384_BYTES
+ *   WAGGLELOFT_OK            otherwise
+ *
+ * With any other result than WAGGLELOFT_OK no byte of the buffer is written.
+ */
+uint32_t waggleloft_sha384_finish(const uint8_t *state, size_t state_len,
+                                  uint8_t *buffer, size_t buffer_len);
 
 /*
  * The mailbox checksum of a command code and the bytes after the checksum

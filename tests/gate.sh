@@ -120,14 +120,24 @@ expect 'a digest that calls through a pointer' '1 passed, 1 failed, status 1' \
 expect 'an archive without the digest' '1 passed, 1 failed, status 1' "$(stacked 'int other(void) { return 1; }')"
 expect 'another function with too much stack' '1 passed, 1 failed, status 1' \
     "$(stacked "$(frame 100) void other(void) { char b[3100]; use(b); }")"
+for function in begin feed finish; do
+    expect "a running digest's $function within its bound" '2 passed, 0 failed, status 0' \
+        "$(stacked "$(frame 100) void waggleloft_sha384_$function(void) { char b[1600]; use(b); }")"
+    expect "a running digest's $function with too much stack" '1 passed, 1 failed, status 1' \
+        "$(stacked "$(frame 100) void waggleloft_sha384_$function(void) { char b[1700]; use(b); }")"
+done
 
 # ---- the digest's speed
 
-slow() {
+# Prints the last line of bench/speed with these bounds, and its exit status.
+timed() { # BOUND SLICES_BOUND
     local status=0
-    bench/speed 0.01 >"$work/log" 2>&1 || status=$?
+    bench/speed "$@" >"$work/log" 2>&1 || status=$?
     echo "$(tail -n 1 "$work/log"), status $status"
 }
-expect 'a digest that takes longer than its bound' '0 passed, 1 failed, status 1' "$(slow)"
+# A bound of 100 is kept on any machine.
+expect 'a digest that takes longer than its bound' '1 passed, 1 failed, status 1' "$(timed 0.01 100)"
+expect 'slices that take longer than their bound' '1 passed, 1 failed, status 1' "$(timed 100 0.01)"
+expect 'a bound that is no number' 'status 2' "$(timed 2 x | grep -o 'status 2')"
 
 conclude

@@ -1,76 +1,56 @@
-//! Times the core's digest against the second implementation and OpenSSL.
+//! Times the core's digest against the second implementation and OpenSSL, and
+//! the running digest of slices against the digest in one piece.
 //!
 //! All run in this process, on the same buffers, and take turns: a batch is
 //! made in many short turns, so that a machine that slows down for a while slows
 //! all alike. Printed are the time of the whole batch and the best turn's time,
-//! scaled to a batch. The last line is 'N passed, M failed': the batch of long
-//! messages may take at most so many times as long as the second implementation's
-//! as the program's one argument says.
+//! scaled to a batch. The last line is 'N passed, M failed'; the two arguments
+//! are bounds. The batch of long messages may take at most so many times as long
+//! as the second implementation's as the first says. In slices of 4,096 bytes a
+//! digest may take at most so many times as long as in one piece as the second
+//! says: the median of the turns, each of one digest, which a busy machine
+//! disturbs least.
 
 mod openssl;
+mod turns;
 
-use std::hint::black_box;
 use std::process::ExitCode;
-use std::time::{Duration, Instant};
+use turns::{print_heading, print_row, times, Batch, Contender, Times};
+use waggleloft::{sha384_into, Refusal, Sha384};
 
-/// The turns that each takes to make its batch.
-const TURNS: usize = 100;
+const LONG: Batch = Batch {
+    digests: 1_000,
+    bytes: 64_000,
+    turns: 100,
+};
 
-/// A batch: how many digests of a message of how many bytes, and whether the bound
-/// is for it.
-struct Batch {
-    digests: usize,
-    bytes: usize,
-    bounded: bool,
-}
+const SHORT: Batch = Batch {
+    digests: 100_000,
+    bytes: 96,
+    turns: 100,
+};
 
-const BATCHES: [Batch; 2] = [
-    Batch {
-        digests: 1_000,
-        bytes: 64_000,
-        bounded: true,
-    },
-    Batch {
-        digests: 100_000,
-        bytes: 96,
-        bounded: false,
-    },
-];
+const SLICED: Batch = Batch {
+    digests: 1_000,
+    bytes: 64_000,
+    turns: 1_000,
+};
 
-type Hash = Box<dyn Fn(&[u8], &mut [u8; 48])>;
-
-struct Contender {
-    name: &'static str,
-    hash: Hash,
-}
+/// The slices that the bound is for, and others, in bytes.
+const BOUNDED_SLICE: usize = 4_096;
+const OTHER_SLICES: [usize; 2] = [1_000, 64];
 
 fn main() -> ExitCode {
-    let Some(bound) = std::env::args()
-        .nth(1)
-        .and_then(|word| word.parse::<f64>().ok())
-    else {
-        eprintln!("usage: bench BOUND");
+    let Some((bound, slices_bound)) = bounds() else {
+        eprintln!("usage: bench BOUND SLICES_BOUND");
         return ExitCode::from(2);
     };
-    let contenders = contenders();
-    let (mut passed, mut failed) = (0, 0);
-    print_heading(&contenders);
-    for batch in &BATCHES {
-        let message: Vec<u8> = (0..batch.bytes).map(|i| (i * 7 + i / 251) as u8).collect();
-        check_agreement(&contenders, &message);
-        let times = times(batch, &contenders, &message);
-        print_times(batch, &contenders, &times);
-        if !batch.bounded {
-            continue;
-        }
-        if whole_ratio(&times) <= bound {
-            passed += 1;
-        } else {
-            println!("FAILED: more than {bound} times as long as the second implementation");
-            failed += 1;
-        }
-    }
-    println!("{passed} passed, {failed} failed");
+    let kept = [
+        keeps(time_others(), "the second implementation", bound),
+        keeps(time_slices(), "one piece", slices_bound),
+    ];
+    let failed = kept.iter().filter(|kept| !**kept).count();
+    println!("{} passed, {failed} failed", kept.len() - failed);
     if failed == 0 {
         ExitCode::SUCCESS
     } else {
@@ -78,94 +58,93 @@ fn main() -> ExitCode {
     }
 }
 
-/// The whole batch's time, ours divided by the second implementation's.
-fn whole_ratio(times: &[Vec<Duration>]) -> f64 {
-    let whole = |who: usize| times[who].iter().sum::<Duration>().as_secs_f64();
-    whole(0) / whole(1)
+/// The two arguments.
+fn bounds() -> Option<(f64, f64)> {
+    let words: Vec<String> = std::env::args().skip(1).collect();
+    match &words[..] {
+        [first, second] => Some((first.parse().ok()?, second.parse().ok()?)),
+        _ => None,
+    }
+}
+
+/// Whether a ratio keeps its bound; tells if it does not.
+fn keeps(ratio: f64, other: &str, bound: f64) -> bool {
+    let kept = ratio <= bound;
+    if !kept {
+        println!("FAILED: {ratio:.3} times as long as {other}; the bound is {bound}");
+    }
+    kept
+}
+
+/// Times the digest against others. The whole batch of long messages, ours divided by the second
+/// implementation's.
+fn time_others() -> f64 {
+    let contenders = contenders();
+    println!("Milliseconds of a batch and ratios of times (below 1: ours is faster), whole batch / best turn.");
+    print_heading("digests   bytes", &contenders);
+    let row = |batch: &Batch| {
+        let times = times(batch, &contenders);
+        let label = format!("{:>7} {:>7}", batch.digests, batch.bytes);
+        print_row(&label, &times, [Times::whole_ratio, Times::best_ratio]);
+        times[0].whole_ratio(&times[1])
+    };
+    let ratio = row(&LONG);
+    row(&SHORT);
+    ratio
 }
 
 /// The core first, then what it is compared with: the second implementation first.
 fn contenders() -> Vec<Contender> {
     let mut contenders = vec![
-        Contender {
-            name: "ours",
-            hash: Box::new(|message, digest| {
-                waggleloft::sha384_into(message, digest).expect("a message that has a digest");
-            }),
-        },
-        Contender {
-            name: "reference",
-            hash: Box::new(|message, digest| *digest = reference::sha384::digest(message)),
-        },
+        Contender::new("ours", in_one_piece),
+        Contender::new("reference", |message, digest| {
+            *digest = reference::sha384::digest(message);
+        }),
     ];
     match openssl::sha384() {
-        Some(hash) => contenders.push(Contender {
-            name: "OpenSSL",
-            hash: Box::new(hash),
-        }),
+        Some(hash) => contenders.push(Contender::new("OpenSSL", hash)),
         None => println!("OpenSSL's libcrypto.so.3 is not on this machine: not compared"),
     }
     contenders
 }
 
-/// A time means nothing unless all digests are the same.
-fn check_agreement(contenders: &[Contender], message: &[u8]) {
-    let expected = reference::sha384::digest(message);
-    for contender in contenders {
-        let mut digest = [0; 48];
-        (contender.hash)(message, &mut digest);
-        assert_eq!(digest, expected, "{} differs", contender.name);
+/// Times the running digest against the digest in one piece. The median ratio for the slices that the
+/// bound is for.
+fn time_slices() -> f64 {
+    let Batch { digests, bytes, .. } = SLICED;
+    println!("{digests} digests of {bytes} bytes in slices; ratios of the whole batch / of the median turn.");
+    print_heading("          slice", &slicing(BOUNDED_SLICE));
+    let row = |length: usize| {
+        let times = times(&SLICED, &slicing(length));
+        let label = format!("{length:>15}");
+        print_row(&label, &times, [Times::whole_ratio, Times::median_ratio]);
+        times[0].median_ratio(&times[1])
+    };
+    let ratio = row(BOUNDED_SLICE);
+    for length in OTHER_SLICES {
+        row(length);
     }
+    ratio
 }
 
-/// The times of each contender's turns.
-fn times(batch: &Batch, contenders: &[Contender], message: &[u8]) -> Vec<Vec<Duration>> {
-    let mut times = vec![Vec::new(); contenders.len()];
-    for turn in 0..TURNS {
-        // Another contender begins each turn.
-        for place in 0..contenders.len() {
-            let who = (turn + place) % contenders.len();
-            times[who].push(time(batch.digests / TURNS, &contenders[who].hash, message));
-        }
-    }
-    times
+fn slicing(length: usize) -> [Contender; 2] {
+    [
+        Contender::new("slices", move |message, digest| {
+            in_slices(message, length, digest).expect("slices that have a digest");
+        }),
+        Contender::new("one piece", in_one_piece),
+    ]
 }
 
-fn time(digests: usize, hash: &Hash, message: &[u8]) -> Duration {
-    let mut digest = [0; 48];
-    let start = Instant::now();
-    for _ in 0..digests {
-        hash(black_box(message), black_box(&mut digest));
-    }
-    start.elapsed()
+fn in_one_piece(message: &[u8], digest: &mut [u8; 48]) {
+    sha384_into(message, digest).expect("a message that has a digest");
 }
 
-fn print_heading(contenders: &[Contender]) {
-    println!("Milliseconds of a batch and ratios of times (below 1: ours is faster), whole batch / best of {TURNS} turns.");
-    print!("{:>7} {:>7}", "digests", "bytes");
-    for contender in contenders {
-        print!("  {:>17}", format!("{} ms", contender.name));
+/// Begin, a feed of each slice, and finish.
+fn in_slices(message: &[u8], length: usize, digest: &mut [u8; 48]) -> Result<(), Refusal> {
+    let mut running = Sha384::new();
+    for slice in message.chunks(length) {
+        running.feed(slice)?;
     }
-    for other in &contenders[1..] {
-        print!("  {:>15}", format!("ours/{}", other.name));
-    }
-    println!();
-}
-
-fn print_times(batch: &Batch, contenders: &[Contender], times: &[Vec<Duration>]) {
-    let ms = |time: Duration| time.as_secs_f64() * 1e3;
-    let whole: Vec<f64> = times.iter().map(|each| ms(each.iter().sum())).collect();
-    let best: Vec<f64> = times
-        .iter()
-        .map(|each| ms(*each.iter().min().expect("a turn")) * TURNS as f64)
-        .collect();
-    print!("{:>7} {:>7}", batch.digests, batch.bytes);
-    for i in 0..contenders.len() {
-        print!("  {:>17}", format!("{:.2} / {:.2}", whole[i], best[i]));
-    }
-    for i in 1..contenders.len() {
-        let ratios = format!("{:.2} / {:.2}", whole[0] / whole[i], best[0] / best[i]);
-        print!("  {ratios:>15}");
-    }
-    println!();
+    running.finish_into(digest)
 }

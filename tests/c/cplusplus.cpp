@@ -27,6 +27,12 @@ int main()
     (void)std::snprintf(version, sizeof version, "%d.%d.%d", WAGGLELOFT_VERSION_MAJOR, WAGGLELOFT_VERSION_MINOR, WAGGLELOFT_VERSION_PATCH);
     check(std::strcmp(WAGGLELOFT_VERSION, version) == 0, "version");
     check(waggleloft_sha384(none.data(), 0, digest.data(), digest.size()) == WAGGLELOFT_OK && digest[0] == 0x38, "digest of nothing");
+    std::array<std::uint8_t, WAGGLELOFT_SHA384_STATE_BYTES> state{};
+    check(waggleloft_sha384_state_bytes() == state.size() && WAGGLELOFT_SHA384_TOTAL_LONGEST == UINT32_MAX, "sizes of a running digest");
+    check(waggleloft_sha384_begin(state.data(), state.size()) == WAGGLELOFT_OK, "begin");
+    check(waggleloft_sha384_feed(state.data(), state.size(), none.data(), 0) == WAGGLELOFT_OK, "feed");
+    check(waggleloft_sha384_finish(state.data(), state.size(), answer.data(), answer.size()) == WAGGLELOFT_OK &&
+              std::memcmp(answer.data(), digest.data(), digest.size()) == 0, "finish");
     check(waggleloft_checksum(WAGGLELOFT_DISABLE_ATTESTATION, none.data(), 0) == UINT32_C(0xFFFFFEDB), "checksum");
     secret.fill(0x22);
     check(waggleloft_open_cold_boot(image.data(), image.size(), digest.data(), digest.size(), secret.data(), secret.size(), work.data(),

@@ -9,6 +9,7 @@
 #include "waggleloft.h"
 
 #include "check.h"
+#include "random.h"
 
 #include <stdio.h>
 #include <stdlib.h>
@@ -37,29 +38,6 @@ static void *lent(size_t n, size_t size)
         exit(1);
     }
     return buffer;
-}
-
-static uint64_t seed = 88172645463325252U;
-
-/* xorshift64 */
-static uint32_t random32(void)
-{
-    seed ^= seed << 13;
-    seed ^= seed >> 7;
-    seed ^= seed << 17;
-    return (uint32_t)(seed >> 16);
-}
-
-static void fill_words(uint32_t *words, size_t n)
-{
-    for (size_t i = 0; i < n; i++)
-        words[i] = random32();
-}
-
-static void fill_bytes(uint8_t *bytes, size_t n)
-{
-    for (size_t i = 0; i < n; i++)
-        bytes[i] = (uint8_t)(random32() & 0xFFU);
 }
 
 /* ---- a unit: its image and the work in hand, with copies to compare with ---- */

@@ -40,10 +40,21 @@ midnight() { # COMMAND..
     "$@" | tail -n 1
 }
 
-# Both examples; COMMAND comes before each program.
+# The example of a digest in pieces on a file of that many bytes, by its name and on standard input.
+pieces() { # SUFFIX BYTES COMMAND..
+    local suffix=$1 bytes=$2 digest
+    shift 2
+    head -c "$bytes" "$built/numbers" >"$built/image"
+    digest=$(sha384sum <"$built/image" | cut -d' ' -f1)
+    expect "pieces$suffix of $bytes bytes" "$digest" "$("$@" "$built/pieces$suffix" "$built/image")"
+    expect "pieces$suffix of $bytes bytes from a pipe" "$digest" "$(head -c "$bytes" "$built/numbers" | "$@" "$built/pieces$suffix")"
+}
+
+# All examples; COMMAND comes before each program.
 examples() { # SUFFIX COMMAND..
-    local suffix=$1
+    local suffix=$1 bytes
     shift
+    for bytes in 0 1 4096 65535 65536 1000000; do pieces "$suffix" "$bytes" "$@"; done
     expect "boot$suffix" "$(printf abc | sha384sum | cut -d' ' -f1)"$'\n'FFFFFEDB "$("$@" "$built/boot$suffix")"
     expect "midnight$suffix 0" 'Attestation is on. The new measurement is not in the list, and all earlier ones are.' \
         "$(midnight "$@" "$built/midnight$suffix" 0)"
@@ -59,23 +70,33 @@ examples() { # SUFFIX COMMAND..
 all() { # SUFFIX COMMAND..
     local suffix=$1 name
     shift
-    for name in known_values engine cplusplus; do counted "$@" "$built/$name$suffix"; done
+    for name in known_values engine running cplusplus; do counted "$@" "$built/$name$suffix"; done
     examples "$suffix" "$@"
 }
 
+seq 200000 >"$built/numbers"
 for suffix in '' .san; do
     flags=(-O2)
     [ -z "$suffix" ] || flags=(-g -fsanitize=address,undefined -fno-sanitize-recover=all)
     build "known_values$suffix" tests/c/known_values.c "${flags[@]}"
     build "engine$suffix" tests/c/engine.c "${flags[@]}"
+    build "running$suffix" tests/c/running.c "${flags[@]}"
     build "cplusplus$suffix" tests/c/cplusplus.cpp "${flags[@]}"
     build "boot$suffix" examples/boot.c "${flags[@]}"
     build "midnight$suffix" examples/midnight.c "${flags[@]}"
+    build "pieces$suffix" examples/pieces.c "${flags[@]}"
     all "$suffix" env --
 done
 
-expect 'midnight without a number' 'status 2' "$("$built/midnight" 2>/dev/null || echo "status $?")"
-expect 'midnight 54' 'status 2' "$("$built/midnight" 54 2>/dev/null || echo "status $?")"
+# What a program writes to standard output, and its status if it is not 0.
+refused() { # COMMAND..
+    "$@" 2>/dev/null || echo "status $?"
+}
+expect 'midnight without a number' 'status 2' "$(refused "$built/midnight")"
+expect 'midnight 54' 'status 2' "$(refused "$built/midnight" 54)"
+expect 'pieces of no file' 'status 1' "$(refused "$built/pieces" "$built/none")"
+expect 'pieces of a folder' 'status 1' "$(refused "$built/pieces" "$built")"
+expect 'pieces of two files' 'status 2' "$(refused "$built/pieces" "$built/image" "$built/image")"
 if [ "${1:-}" = valgrind ]; then all '' valgrind -q --error-exitcode=3 --leak-check=full; fi
 
 conclude

@@ -4,11 +4,12 @@
 //! for the length that is passed with it, and a mutable one overlaps no other. The functions ask for
 //! nothing else.
 
-use crate::{Request, WORK_WORDS};
+use crate::{Request, SHA384_STATE_BYTES, WORK_WORDS};
 
 extern "C" {
     fn waggleloft_work_words() -> usize;
     fn waggleloft_image_words() -> usize;
+    fn waggleloft_sha384_state_bytes() -> usize;
     fn waggleloft_open_cold_boot(
         image: *const u32,
         image_len: usize,
@@ -60,6 +61,19 @@ extern "C" {
         buffer: *mut u8,
         buffer_len: usize,
     ) -> u32;
+    fn waggleloft_sha384_begin(state: *mut u8, state_len: usize) -> u32;
+    fn waggleloft_sha384_feed(
+        state: *mut u8,
+        state_len: usize,
+        slice: *const u8,
+        slice_len: usize,
+    ) -> u32;
+    fn waggleloft_sha384_finish(
+        state: *const u8,
+        state_len: usize,
+        buffer: *mut u8,
+        buffer_len: usize,
+    ) -> u32;
     fn waggleloft_checksum(code: u32, bytes: *const u8, bytes_len: usize) -> u32;
 }
 
@@ -89,6 +103,10 @@ pub fn work_words() -> usize {
 
 pub fn image_words() -> usize {
     call!(waggleloft_image_words)
+}
+
+pub fn sha384_state_bytes() -> usize {
+    call!(waggleloft_sha384_state_bytes)
 }
 
 pub fn open_cold_boot(
@@ -137,6 +155,18 @@ pub fn answer(work: &[u32; WORK_WORDS], buffer: &mut [u8], written: &mut usize) 
 
 pub fn sha384(message: &[u8], buffer: &mut [u8]) -> u32 {
     call!(waggleloft_sha384, read message, write buffer)
+}
+
+pub fn sha384_begin(state: &mut [u8; SHA384_STATE_BYTES]) -> u32 {
+    call!(waggleloft_sha384_begin, write state)
+}
+
+pub fn sha384_feed(state: &mut [u8; SHA384_STATE_BYTES], slice: &[u8]) -> u32 {
+    call!(waggleloft_sha384_feed, write state, read slice)
+}
+
+pub fn sha384_finish(state: &[u8; SHA384_STATE_BYTES], buffer: &mut [u8]) -> u32 {
+    call!(waggleloft_sha384_finish, read state, write buffer)
 }
 
 pub fn checksum(code: u32, bytes: &[u8]) -> u32 {

@@ -6,6 +6,8 @@
 //! a time, and at the end its answer is taken. Between two stores anything may happen, a loss of power
 //! too.
 //!
+//! [`sha384`] is the digest of a message in one piece, [`Sha384`] that of one which comes in slices.
+//!
 //! Nothing here allocates, panics or keeps state. A call that hands back a [`Refusal`] has written
 //! nothing.
 //!
@@ -30,9 +32,11 @@
 
 mod archive;
 mod refusal;
+mod running;
 mod work;
 
 pub use refusal::Refusal;
+pub use running::Sha384;
 pub use work::{Outcome, Request, Work};
 
 /// Words of the unit's image.
@@ -43,8 +47,12 @@ pub const WORK_WORDS: usize = 105;
 pub const ANSWER_LONGEST: usize = 104;
 /// Bytes of a SHA-384 digest.
 pub const SHA384_BYTES: usize = 48;
-/// The longest message, in bytes, that has a digest.
+/// The longest message, in bytes, that [`sha384`] takes, and the longest slice of a [`Sha384`].
 pub const SHA384_LONGEST: usize = 65_535;
+/// Bytes of a running digest's state. It may change with a later version.
+pub const SHA384_STATE_BYTES: usize = 208;
+/// The most bytes that a [`Sha384`] takes, all slices together.
+pub const SHA384_TOTAL_LONGEST: u64 = 0xFFFF_FFFF;
 
 /// Command codes of the mailbox.
 pub mod code {
@@ -86,4 +94,10 @@ pub fn checksum(code: u32, bytes: &[u8]) -> u32 {
 /// other, the entries refuse.
 pub fn archive_sizes() -> (usize, usize) {
     (archive::work_words(), archive::image_words())
+}
+
+/// Bytes of a running digest's state that the archive was built with: [`SHA384_STATE_BYTES`] of the one
+/// that belongs to this version.
+pub fn archive_state_bytes() -> usize {
+    archive::sha384_state_bytes()
 }

@@ -24,11 +24,15 @@ pub enum Refusal {
     ShortBuffer,
     /// 9: the work has no store left, or its words are damaged.
     NoStoreLeft,
-    /// 10: the message is longer than [`SHA384_LONGEST`](crate::SHA384_LONGEST) bytes.
+    /// 10: the message or the slice is longer than [`SHA384_LONGEST`](crate::SHA384_LONGEST) bytes.
     LongMessage,
     /// 11: the image's nodes are not well formed (stash).
     NotWellFormed,
-    /// 28: the archive was built for works of another length.
+    /// 16: all slices together would pass [`SHA384_TOTAL_LONGEST`](crate::SHA384_TOTAL_LONGEST) bytes.
+    LongTotal,
+    /// 27: the counts in a running digest's state disagree, or its total is too large.
+    WrongCounts,
+    /// 28: the archive was built for works, or for states of a running digest, of another length.
     WrongWork,
     /// 0x4243484B: the request's checksum is wrong.
     BadChecksum,
@@ -53,6 +57,8 @@ impl Refusal {
             Self::NoStoreLeft => 9,
             Self::LongMessage => 10,
             Self::NotWellFormed => 11,
+            Self::LongTotal => 16,
+            Self::WrongCounts => 27,
             Self::WrongWork => 28,
             Self::BadChecksum => 0x4243_484B,
             Self::BadSignature => 0x4253_4947,
@@ -74,6 +80,8 @@ impl Refusal {
             9 => Self::NoStoreLeft,
             10 => Self::LongMessage,
             11 => Self::NotWellFormed,
+            16 => Self::LongTotal,
+            27 => Self::WrongCounts,
             28 => Self::WrongWork,
             0x4243_484B => Self::BadChecksum,
             0x4253_4947 => Self::BadSignature,
@@ -101,9 +109,11 @@ impl Refusal {
             Self::StoresLeft => "stores are left, so there is no answer yet",
             Self::ShortBuffer => "the buffer is too short",
             Self::NoStoreLeft => "no store is left",
-            Self::LongMessage => "the message is longer than 65,535 bytes",
+            Self::LongMessage => "the message or the slice is longer than 65,535 bytes",
             Self::NotWellFormed => "the image's nodes are not well formed",
-            Self::WrongWork => "the archive was built for works of another length",
+            Self::LongTotal => "the slices together are longer than 2^32 - 1 bytes",
+            Self::WrongCounts => "the state's counts disagree or its total is too large",
+            Self::WrongWork => "the archive was built for works or states of another length",
             Self::BadChecksum => "the request's checksum is wrong",
             Self::BadSignature => "the verdict on the signature is no",
             Self::Other(_) => "refused",
