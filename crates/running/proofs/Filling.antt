@@ -4,9 +4,10 @@ use mathlib.Core.List.{List, [], _++_, append-nil, append-assoc}
 use Prim.Native.Nat.{ℕ, suc, _+_, _-_, _*_, _/_, _%_, _≤_, _<_}
 use native.Mathlib.Omega.{arith}
 use lib.ListN.{length, take, drop, replicate, length-append, length-drop, length-replicate}
-use lib.ListN.{drop-of-length-le, take-append-drop, replicate-append-replicate}
-use lib.Seq.{take-all, take-at, drop-at, drop-drop, drop-append-add, length-take-le}
+use lib.ListN.{drop-of-length-le, take-append-drop}
+use lib.Seq.{take-all, take-at, drop-drop, drop-append-add, length-take-le}
 use borrow.Rule.Slice.PartMut.{midOf, postOf, putMid}
+use Rattle.layout.proofs.Tab.{drop-zeros}
 use Rattle.sha_block.specs.Blocks.{hashed, hashWords, hashValue, absorbed}
 use Rattle.sha_block.proofs.Hashed.{hashed-append, absorbed-words, absorbed-hashed}
 use Rattle.sha384.specs.Constants.{constants}
@@ -16,14 +17,7 @@ use Rattle.running.specs.declared.Running.{Running}
 -- bytes copied to the front of zeros
 pub filled-front : (l o : List ℕ) → length l ≤ 128 → o ≡ take (length l) l ++ drop (length l) (replicate 128 0) → o ≡ filled l
 unfolding filled
-filled-front l o h e =
-    let n = length l in
-    let count : n + (128 - n) ≡ 128 = omega arith in
-    e
-    ∙ ap₂ (λ (a b : List ℕ). a ++ b) (take-all n l (omega arith))
-    (ap (λ (k : ℕ). drop n (replicate k 0)) (sym count)
-    ∙ ap (drop n) (sym (replicate-append-replicate n (128 - n) 0))
-    ∙ drop-at (replicate n 0) (replicate (128 - n) 0) n (length-replicate n 0))
+filled-front l o h e = e ∙ ap₂ (λ (a b : List ℕ). a ++ b) (take-all (length l) l (omega arith)) (drop-zeros (length l) 128 h)
 
 -- bytes copied behind those that wait
 pub put-behind : (m b o : List ℕ) (w n : ℕ) → length b ≡ 128 → w + n ≡ 128 → length m ≤ n
@@ -42,11 +36,9 @@ filled-behind l m h =
     let w = length l in
     let n = length m in
     let k = 128 - length (l ++ m) in
-    let count : 128 - w ≡ n + k = omega (arith, length-append l m) in
+    let count : 128 - w - n ≡ k = omega (arith, length-append l m) in
     let zeros : drop (w + n) (l ++ replicate (128 - w) 0) ≡ replicate k 0 =
-    drop-append-add l (replicate (128 - w) 0) n ∙ ap (λ (x : ℕ). drop n (replicate x 0)) count
-    ∙ ap (drop n) (sym (replicate-append-replicate n k 0))
-    ∙ drop-at (replicate n 0) (replicate k 0) n (length-replicate n 0) in
+    drop-append-add l (replicate (128 - w) 0) n ∙ drop-zeros n (128 - w) (omega arith) ∙ ap (λ (x : ℕ). replicate x 0) count in
     ap (λ (z : List ℕ). l ++ (m ++ z)) zeros ∙ sym (append-assoc l m (replicate k 0))
 
 -- a slice that leaves less than a block waiting

@@ -3,3 +3,4 @@ pub mod Agreeing
 pub mod Filling
 pub mod States
 pub mod Theorem
+pub mod Cards

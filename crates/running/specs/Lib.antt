@@ -1,3 +1,4 @@
--- The running digest: what its entries answer, and the theorem over every list of steps.
+-- The running digest: what its entries answer, the theorem over every list of steps, and the cases of the request.
 pub mod Running
 pub mod Steps
+pub mod Cards

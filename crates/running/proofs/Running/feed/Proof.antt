@@ -1,5 +1,5 @@
 -- `running::Running::feed` meets its contract: refused by its number, or the state after the slice. Assumes nothing.
-use mathlib.Core.Path.{sym, ap, _∙_}
+use mathlib.Core.Path.{ap}
 use borrow.Author.Tests.{ne-eqb}
 use Rattle.layout.proofs.Cases.{told}
 use Rattle.running.specs.Running.{feedResult}
