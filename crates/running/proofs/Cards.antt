@@ -8,7 +8,7 @@ use lib.ListN.{length}
 use Rattle.sha384.specs.Entries.{longest}
 use Rattle.running.specs.Running.{longestTotal, agrees, feedNumber, feedResult, finishResult}
 use Rattle.running.specs.declared.Running.{Running}
-use Rattle.running.specs.Cards.{counting, Refused, Running-cards}
+use Rattle.running.specs.Cards.{counting, Refused, RunningCards}
 
 refused : (st : Running) → agrees st ≡ false → Refused st
 unfolding feedNumber feedResult finishResult
@@ -34,7 +34,7 @@ beyond : (st : Running) (m : List ℕ) → agrees st ≡ true → length m ≤ l
 unfolding feedNumber feedResult
 beyond st m h s l = rw (h, le-ltb longest (length m) s, lt-ltb longestTotal (st .total + length m) l)
 
-pub running-cards : Running-cards
+pub running-cards : RunningCards
 running-cards =
     record {
       fullBlockWaits = λ b h. refused (counting 128 128 b h) (full-block b h);

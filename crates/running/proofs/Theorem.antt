@@ -13,7 +13,7 @@ use Rattle.sha384.specs.declared.digest.DigestResult.{DigestResult}
 use Rattle.running.specs.Running.{longestTotal, feedNumber, fedOf, feedResult, finishResult}
 use Rattle.running.specs.declared.Running.{Running}
 use Rattle.running.specs.declared.Fed.{Fed}
-use Rattle.running.specs.Steps.{Step, feed, finish, Result, fed, finished, results, numberAfter, doneAfter, told, Running-digest}
+use Rattle.running.specs.Steps.{Step, feed, finish, Result, fed, finished, results, numberAfter, doneAfter, told, RunningDigest}
 use Rattle.running.proofs.States.{stateOf, begun-state, state-agrees, state-fed, state-concluded}
 
 number-same : (done m : List ℕ) → length done ≤ longestTotal → feedNumber (stateOf done) (length m) ≡ numberAfter done m
@@ -77,6 +77,6 @@ from-state done (feed m ∷ steps) h =
 from-state done (finish ∷ steps) h =
     ap₂ (λ (d : DigestResult) (rs : List Result). finished d ∷ rs) (finish-told done h) (from-state done steps h)
 
-pub running-digest : Running-digest
-unfolding Running-digest
+pub running-digest : RunningDigest
+unfolding RunningDigest
 running-digest steps = ap (λ (st : Running). results st steps) begun-state ∙ from-state [] steps (omega arith)

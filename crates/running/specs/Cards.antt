@@ -17,7 +17,7 @@ pub record Refused (st : Running) : Type 0 where
   pub feed : (m : List ℕ) → feedResult st m .number ≡ 27
   pub finish : finishResult st .number ≡ 27
 
-pub record Running-cards : Type 0 where
+pub record RunningCards : Type 0 where
   -- 128 bytes waiting at a total of 128
   pub fullBlockWaits : (buffer hash : List ℕ) → Refused (counting 128 128 buffer hash)
   -- a total of 2^32 with none waiting

@@ -41,6 +41,6 @@ told done [] = []
 told done (feed m ∷ steps) = fed (numberAfter done m) ∷ told (doneAfter done m) steps
 told done (finish ∷ steps) = finished (record { number = 0; bytes = sha384 done }) ∷ told done steps
 
--- "From begin on, finish gives the digest of the accepted slices joined, wherever cut, empty ones too. Finish doesn't spoil the state."
-unfoldable pub Running-digest : Type 0
-Running-digest = (steps : List Step) → results begun steps ≡ told [] steps
+-- "wherever cut, empty ones too": from begin on every number and every digest is what the accepted slices joined say, and a finish changes nothing
+unfoldable pub RunningDigest : Type 0
+RunningDigest = (steps : List Step) → results begun steps ≡ told [] steps

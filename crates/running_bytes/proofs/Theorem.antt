@@ -18,7 +18,7 @@ use Rattle.running.proofs.States.{stateOf, begun-state, state-small, length-fil
 use Rattle.running.proofs.Theorem.{feed-stays, fed-after, done-within, finish-told, from-state}
 use Rattle.running_bytes.specs.Coding.{stateSize, stateBytes, stateAt}
 use Rattle.running_bytes.specs.Entries.{beginNumberIn, beginBytes, feedNumberIn, feedBytes, finishNumberIn, finishBuffer}
-use Rattle.running_bytes.specs.Steps.{resultsIn, Running-digest-in-bytes}
+use Rattle.running_bytes.specs.Steps.{resultsIn, RunningDigestInBytes}
 use Rattle.running_bytes.proofs.Back.{length-state, state-back}
 
 -- the bytes of the state after a message
@@ -73,6 +73,6 @@ begin-held : (s : List ℕ) → length s ≡ stateSize → beginBytes s ≡ held
 unfolding beginNumberIn beginBytes
 begin-held s e = rw (eq-eqb (length s) stateSize e) (ap stateBytes begun-state)
 
-pub running-digest-in-bytes : Running-digest-in-bytes
-unfolding Running-digest-in-bytes
+pub running-digest-in-bytes : RunningDigestInBytes
+unfolding RunningDigestInBytes
 running-digest-in-bytes b s steps l e = ap (λ (x : List ℕ). resultsIn b x steps) (begin-held s e) ∙ in-bytes b [] steps l (omega arith)

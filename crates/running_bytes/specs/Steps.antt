@@ -15,5 +15,5 @@ resultsIn b s (finish ∷ steps) =
     finished (record { number = finishNumberIn s (length b); bytes = finishBuffer s b }) ∷ resultsIn b s steps
 
 -- from begin in any bytes of a state's size, the steps give what document 02 says of them
-unfoldable pub Running-digest-in-bytes : Type 0
-Running-digest-in-bytes = (b s : List ℕ) (steps : List Step) → length b ≡ 48 → length s ≡ stateSize → resultsIn b (beginBytes s) steps ≡ told [] steps
+unfoldable pub RunningDigestInBytes : Type 0
+RunningDigestInBytes = (b s : List ℕ) (steps : List Step) → length b ≡ 48 → length s ≡ stateSize → resultsIn b (beginBytes s) steps ≡ told [] steps
