@@ -16,7 +16,7 @@ use Rattle.sha384.specs.Constants.{constants, initialOf}
 use Rattle.sha384.specs.Sha384.{padding, firstSix, sha384}
 use Rattle.sha384.specs.Entries.{concluded}
 use Rattle.sha384.proofs.Hash.{in-two-runs}
-use Rattle.running.specs.Running.{longestTotal, filled, begun, agrees, fedOf}
+use Rattle.running.specs.Running.{longestTotal, filled, begun, agree, agrees, fedOf}
 use Rattle.running.specs.declared.Running.{Running}
 
 -- the bytes of a message past its whole blocks
@@ -44,7 +44,7 @@ unfolding filled
 waits m = take-at (restOf m) (replicate (128 - length (restOf m)) 0) (length m % 128) (length-rest m)
 
 pub state-agrees : (m : List ℕ) → length m ≤ longestTotal → agrees (stateOf m) ≡ true
-unfolding agrees stateOf
+unfolding agree stateOf
 state-agrees m h = rw (eq-eqb (length m % 128) (length m % 128) refl, le-leb (length m) longestTotal h)
 
 -- the state after the bytes l, from a total of n and k bytes more, and a hash value

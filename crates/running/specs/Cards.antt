@@ -1,5 +1,5 @@
 -- The cases that document 02's request 12 is held to, for every buffer, hash value and slice. Assumes nothing.
-use Prim.Native.Nat.{ℕ, _+_, _^_, _≤_, _<_}
+use Prim.Native.Nat.{ℕ, _+_, _-_, _^_, _≤_, _<_}
 use mathlib.Core.Path.{_≡_}
 use mathlib.Core.Bool.{true, false}
 use mathlib.Core.List.{List, []}
@@ -18,6 +18,8 @@ pub record Refused (st : Running) : Type 0 where
   pub finish : finishResult st .number ≡ 27
 
 pub record RunningCards : Type 0 where
+  -- the largest total
+  pub largest : longestTotal ≡ 2 ^ 32 - 1
   -- 128 bytes waiting at a total of 128
   pub fullBlockWaits : (buffer hash : List ℕ) → Refused (counting 128 128 buffer hash)
   -- a total of 2^32 with none waiting

@@ -24,8 +24,11 @@ unfoldable pub begun : Running
 begun = record { total = 0; waiting = 0; buffer = replicate 128 0; hash = hashWords initialOf }
 
 -- the number waiting is the total's "remainder by 128", and the total is not "larger"
-unfoldable pub agrees : Running → Bool
-agrees st = eqb (st .waiting) (st .total % 128) && leb (st .total) longestTotal
+unfoldable pub agree : ℕ → ℕ → Bool
+agree waiting total = eqb waiting (total % 128) && leb total longestTotal
+
+abbrev pub agrees : Running → Bool
+agrees st = agree (st .waiting) (st .total)
 
 -- a feed's number for a slice of n bytes, "In this order": 27 counts that disagree or a larger total, 10 a longer slice, 16 a total that would be
 -- larger; else 0

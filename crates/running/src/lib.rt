@@ -2,7 +2,7 @@
 ghost use mathlib.Core.Path.{_≡_};
 ghost use Prim.Native.Nat.{_+_, _≤_, _<_};
 ghost use lib.ListN.{length};
-ghost use Rattle.running.specs.Running.{longestTotal, begun, agrees, feedNumber, feedResult, fedOf, finishResult};
+ghost use Rattle.running.specs.Running.{longestTotal, begun, agree, feedNumber, feedResult, fedOf, finishResult};
 use sha_block::blocks::absorb;
 use sha384::constants::K;
 use sha384::constants::initial;
@@ -41,14 +41,14 @@ pub fn begin() -> Running
     }
 }
 
-impl Running {
-    // Whether the counts agree and the total is not too large.
-    fn agrees(self) -> bool
-        ensures { λ r. ⌜ r ≡ agrees self ⌝ }
-    {
-        self.waiting == self.total % 128 && self.total <= LONGEST_TOTAL
-    }
+// Whether counts agree and the total is not too large.
+fn agree(waiting: u64, total: u64) -> bool
+    ensures { λ r. ⌜ r ≡ agree waiting total ⌝ }
+{
+    waiting == total % 128 && total <= LONGEST_TOTAL
+}
 
+impl Running {
     // The state after a slice that leaves less than a block waiting.
     fn kept(self, slice: &[u8]) -> Running
         requires { ⌜ (self .waiting + length (now slice) < 128) × (self .total ≤ longestTotal) ⌝ }
@@ -101,7 +101,7 @@ impl Running {
     fn refusal(self, n: usize) -> u32
         ensures { λ r. ⌜ r ≡ feedNumber self n ⌝ }
     {
-        let agreed = self.agrees();
+        let agreed = agree(self.waiting, self.total);
         if !agreed {
             return 27;
         }
@@ -146,7 +146,7 @@ impl Running {
     pub fn finish(self) -> DigestResult
         ensures { λ r. ⌜ r ≡ finishResult self ⌝ }
     {
-        if !self.agrees() {
+        if !agree(self.waiting, self.total) {
             return DigestResult {
                 number: 27,
                 bytes: [0u8; 48],

@@ -9,17 +9,17 @@ use Rattle.running.proofs.Agreeing.{agreeing-total}
 use Rattle.running.proofs.Running.finish.Statement.{statement}
 use Rattle.running.proofs.Running.finish.Tie as tie
 
-agrees-requires : tie.Need-agrees-requires
-agrees-requires c κs = tt
+agree-requires : tie.Need-agree-requires
+agree-requires c κs = tt
 
 returns : tie.Need-returns
 unfolding finishResult
-returns c = rw (told-no (c .before .agrees .ensures) (c .if1 .taken))
+returns c = rw (told-no (c .before .agree .ensures) (c .if1 .taken))
 
 cast-conclude-digest : tie.Need-cast-conclude-digest
 cast-conclude-digest c =
     let tested = c .before .before .before in
-    omega (arith, agreeing-total (tested .before .before .args .self) (told-yes (tested .before .agrees .ensures) (tested .if1 .left)))
+    omega (arith, agreeing-total (tested .before .before .args .self) (told-yes (tested .before .agree .ensures) (tested .if1 .left)))
 
 conclude-digest-requires : tie.Need-conclude-digest-requires
 conclude-digest-requires c κs = tt
@@ -28,7 +28,7 @@ returns-2 : tie.Need-returns-2
 unfolding finishResult
 returns-2 c =
     let tested = c .before .before .before .before in
-    rw (told-yes (tested .before .agrees .ensures) (tested .if1 .left)) (ap (λ (b : List ℕ). record { number = 0; bytes = b }) (c .conclude-digest .ensures))
+    rw (told-yes (tested .before .agree .ensures) (tested .if1 .left)) (ap (λ (b : List ℕ). record { number = 0; bytes = b }) (c .conclude-digest .ensures))
 
 pub finish-spec : {M : Type 1} → statement M
-finish-spec = tie.close (tie.spec agrees-requires returns cast-conclude-digest conclude-digest-requires returns-2)
+finish-spec = tie.close (tie.spec agree-requires returns cast-conclude-digest conclude-digest-requires returns-2)

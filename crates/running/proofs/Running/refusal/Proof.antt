@@ -9,23 +9,23 @@ use Rattle.running.proofs.Agreeing.{agreeing-total}
 use Rattle.running.proofs.Running.refusal.Statement.{statement}
 use Rattle.running.proofs.Running.refusal.Tie as tie
 
-agrees-requires : tie.Need-agrees-requires
-agrees-requires c κs = tt
+agree-requires : tie.Need-agree-requires
+agree-requires c κs = tt
 
 returns : tie.Need-returns
 unfolding feedNumber
-returns c = rw (told-no (c .before .agrees .ensures) (c .if1 .taken))
+returns c = rw (told-no (c .before .agree .ensures) (c .if1 .taken))
 
 returns-2 : tie.Need-returns-2
 unfolding feedNumber
 returns-2 c =
     let tested = c .before in
-    rw (told-yes (tested .before .agrees .ensures) (tested .if1 .left), lt-ltb longest (tested .before .before .args .n) (c .if2 .taken))
+    rw (told-yes (tested .before .agree .ensures) (tested .if1 .left), lt-ltb longest (tested .before .before .args .n) (c .if2 .taken))
 
 add-if3 : tie.Need-add-if3
 add-if3 c =
     let tested = c .before .before in
-    omega (arith, agreeing-total (tested .before .before .args .self) (told-yes (tested .before .agrees .ensures) (tested .if1 .left)))
+    omega (arith, agreeing-total (tested .before .before .args .self) (told-yes (tested .before .agree .ensures) (tested .if1 .left)))
 
 returns-3 : tie.Need-returns-3
 unfolding feedNumber
@@ -34,7 +34,7 @@ returns-3 c =
     let tested = short .before in
     let g = tested .before .before in
     rw (
-      told-yes (tested .before .agrees .ensures) (tested .if1 .left),
+      told-yes (tested .before .agree .ensures) (tested .if1 .left),
       le-ltb longest (g .args .n) (short .if2 .left),
       lt-ltb longestTotal (g .args .self .total + g .args .n) (c .if3 .taken),
     )
@@ -46,10 +46,10 @@ returns-4 c =
     let tested = short .before in
     let g = tested .before .before in
     rw (
-      told-yes (tested .before .agrees .ensures) (tested .if1 .left),
+      told-yes (tested .before .agree .ensures) (tested .if1 .left),
       le-ltb longest (g .args .n) (short .if2 .left),
       le-ltb longestTotal (g .args .self .total + g .args .n) (c .if3 .left),
     )
 
 pub refusal-spec : {M : Type 1} → statement M
-refusal-spec = tie.close (tie.spec agrees-requires returns returns-2 add-if3 returns-3 returns-4)
+refusal-spec = tie.close (tie.spec agree-requires returns returns-2 add-if3 returns-3 returns-4)
