@@ -247,8 +247,8 @@ uint32_t waggleloft_sha384(const uint8_t *message, size_t message_len,
 /*
  * A running digest: SHA-384 of bytes that come in slices, such as an update that
  * is too long for waggleloft_sha384. Begin once, feed each slice in its order,
- * finish. The digest is that of the accepted slices joined, wherever they were
- * cut, empty ones too.
+ * finish. The digest is that of all accepted bytes in their order: into which
+ * slices they came makes no difference, and a slice may be empty.
  *
  *     uint8_t state[WAGGLELOFT_SHA384_STATE_BYTES], digest[WAGGLELOFT_SHA384_BYTES];
  *     waggleloft_sha384_begin(state, sizeof state);

@@ -5,7 +5,7 @@ use core::fmt;
 use crate::{archive, Refusal, SHA384_BYTES, SHA384_STATE_BYTES};
 
 /// The running digest of bytes that come in slices, such as an update that is too long for
-/// [`sha384`](crate::sha384): SHA-384 of the accepted slices joined, wherever they were cut.
+/// [`sha384`](crate::sha384): SHA-384 of all accepted bytes in their order, into whatever slices they came.
 ///
 /// ```
 /// use waggleloft::{sha384, Refusal, Sha384};

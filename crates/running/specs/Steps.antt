@@ -41,6 +41,6 @@ told done [] = []
 told done (feed m ∷ steps) = fed (numberAfter done m) ∷ told (doneAfter done m) steps
 told done (finish ∷ steps) = finished (record { number = 0; bytes = sha384 done }) ∷ told done steps
 
--- "wherever cut, empty ones too": from begin on every number and every digest is what the accepted slices joined say, and a finish changes nothing
+-- "wherever cut, empty ones too": in every list of steps after begin, each number and each digest is told by the bytes accepted before it
 unfoldable pub RunningDigest : Type 0
 RunningDigest = (steps : List Step) → results begun steps ≡ told [] steps
