@@ -6,6 +6,7 @@
 #include "waggleloft.h"
 
 #include "check.h"
+#include "published.h"
 
 #include <stdio.h>
 #include <stdlib.h>
@@ -27,21 +28,6 @@ static const uint32_t IDENTITY_KEY = UINT32_C(0x49444549);
 
 /* One byte more than the longest message, all zero. */
 static const uint8_t zeros[WAGGLELOFT_SHA384_LONGEST + 1];
-
-static const char TWO_BLOCKS[] =
-    "abcdefghbcdefghicdefghijdefghijkefghijklfghijklmghijklmn"
-    "hijklmnoijklmnopjklmnopqklmnopqrlmnopqrsmnopqrstnopqrstu";
-
-/* Published digests (FIPS 180-4's examples and NIST's vectors). */
-static const char EMPTY_DIGEST[] =
-    "38b060a751ac96384cd9327eb1b1e36a21fdb71114be0743"
-    "4c0cc7bf63f6e1da274edebfe76f65fbd51ad2f14898b95b";
-static const char ABC_DIGEST[] =
-    "cb00753f45a35e8bb5a03d699ac65007272c32ab0eded163"
-    "1a8b605a43ff5bed8086072ba1e7cc2358baeca134c825a7";
-static const char TWO_BLOCKS_DIGEST[] =
-    "09330c33f71147e83d192fc782cd1b4753111b173b3b05d2"
-    "2fa08086e3b0f712fcc7c71a557e2db966c3e9fa91746039";
 
 /* The digest of 65,535 zero bytes, as GNU sha384sum prints it. */
 static const char LONGEST_DIGEST[] =

@@ -9,6 +9,7 @@
 #include "waggleloft.h"
 
 #include "check.h"
+#include "published.h"
 #include "random.h"
 
 #include <stdio.h>
@@ -24,24 +25,6 @@ enum { TOTAL_IN = 0, WAITING_IN = 8, BLOCK_IN = 16 };
 
 /* The largest total, 2^32 - 1. */
 static const uint64_t FULL = UINT64_C(4294967295);
-
-/* Published digests (FIPS 180-4's examples and NIST's vectors). */
-static const char EMPTY_DIGEST[] =
-    "38b060a751ac96384cd9327eb1b1e36a21fdb71114be0743"
-    "4c0cc7bf63f6e1da274edebfe76f65fbd51ad2f14898b95b";
-static const char ABC_DIGEST[] =
-    "cb00753f45a35e8bb5a03d699ac65007272c32ab0eded163"
-    "1a8b605a43ff5bed8086072ba1e7cc2358baeca134c825a7";
-static const char TWO_BLOCKS_DIGEST[] =
-    "09330c33f71147e83d192fc782cd1b4753111b173b3b05d2"
-    "2fa08086e3b0f712fcc7c71a557e2db966c3e9fa91746039";
-static const char MILLION_DIGEST[] =
-    "9d0e1809716474cb086e834e310a4a1ced149e9c00f24852"
-    "7972cec5704c2a5b07b8b3dc38ecc4ebae97ddd87f3d8985";
-
-static const char TWO_BLOCKS[] =
-    "abcdefghbcdefghicdefghijdefghijkefghijklfghijklmghijklmn"
-    "hijklmnoijklmnopjklmnopqklmnopqrlmnopqrsmnopqrstnopqrstu";
 
 /* One byte more than the longest slice, all the letter a. */
 static uint8_t letters[LONGEST + 1];
