@@ -2,10 +2,10 @@
 // standard input, and writes what each gave to standard output.
 //
 // An operation is a letter and its arguments; numbers are little endian, and a byte string stands
-// after its length (u16; u32 for a slice). The run ends at the end of the input, at an unknown letter, at an operation
-// that the input cuts short and at an image of more than 4,096 words. The input is read first: one
-// that cannot be read gets a message on standard error, and nothing is run. Output that cannot be
-// written ends the run, with a message on standard error.
+// after its length (u16; u32 for a slice). The run ends at the end of the input, at an unknown letter,
+// at an operation that the input cuts short and at an image of more than 4,096 words. The input is
+// read first: one that cannot be read gets a message on standard error, and nothing is run. Output
+// that cannot be written ends the run, with a message on standard error.
 mod calls;
 mod input;
 mod output;

@@ -28,7 +28,8 @@ within done m false true p q h = h
 within done m false false p q h = omega (arith, ltb-false longestTotal (length done + length m) q, length-append done m)
 
 -- what a feed leaves: the state after the bytes accepted
-fed-state : (done m : List ℕ) (n : ℕ) → feedNumber (stateOf done) (length m) ≡ n → feedResult (stateOf done) m .state ≡ stateOf (cond (eqb n 0) (done ++ m) done)
+fed-state : (done m : List ℕ) (n : ℕ) → feedNumber (stateOf done) (length m) ≡ n
+    → feedResult (stateOf done) m .state ≡ stateOf (cond (eqb n 0) (done ++ m) done)
 unfolding feedResult
 fed-state done m n e = rw e (by-number (eqb n 0))
   where

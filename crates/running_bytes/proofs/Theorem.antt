@@ -43,7 +43,8 @@ feed-held done m h =
     rw (feed-number done m h, held-back done h) (stored (feedResult (stateOf done) m) (feed-stays (stateOf done) m))
     ∙ ap stateBytes (fed-after done m h)
   where
-    stored : (f : Fed) → (eqb (f .number) 0 ≡ false → stateOf done ≡ f .state) → cond (eqb (f .number) 0) (stateBytes (f .state)) (held done) ≡ stateBytes (f .state)
+    stored : (f : Fed) → (eqb (f .number) 0 ≡ false → stateOf done ≡ f .state)
+        → cond (eqb (f .number) 0) (stateBytes (f .state)) (held done) ≡ stateBytes (f .state)
     stored f e = by (eqb (f .number) 0) refl
       where
         by : (b : Bool) → eqb (f .number) 0 ≡ b → cond b (stateBytes (f .state)) (held done) ≡ stateBytes (f .state)
@@ -56,7 +57,8 @@ finish-number : (b done : List ℕ) → length b ≡ 48 → length done ≤ long
 unfolding finishNumberIn finishBuffer
 finish-number b done l h =
     rw (eq-eqb (length (held done)) stateSize (held-size done), held-back done h, finish-told done h, le-ltb (length b) 48 (omega arith))
-    (ap (λ (x : List ℕ). finished (record { number = 0; bytes = x })) (ap (λ (x : List ℕ). sha384 done ++ x) (drop-of-length-le b {i = 48} (omega arith)) ∙ append-nil (sha384 done)))
+    (ap (λ (x : List ℕ). finished (record { number = 0; bytes = x }))
+    (ap (λ (x : List ℕ). sha384 done ++ x) (drop-of-length-le b {i = 48} (omega arith)) ∙ append-nil (sha384 done)))
 
 in-bytes : (b done : List ℕ) (steps : List Step) → length b ≡ 48 → length done ≤ longestTotal → resultsIn b (held done) steps ≡ told done steps
 in-bytes b done steps l h = go done steps h ∙ from-state done steps h
