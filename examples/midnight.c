@@ -61,13 +61,24 @@ static void open_stash(const uint8_t digest[WAGGLELOFT_SHA384_BYTES])
         refused("the stash", number);
 }
 
+/* An answer begins with its checksum, made with the command code taken as zero. */
+static bool checksum_fine(const uint8_t *answer, size_t len)
+{
+    uint32_t sum = waggleloft_checksum(0, answer + 4, len - 4);
+    for (int i = 0; i < 4; i++)
+        if (answer[i] != (uint8_t)(sum >> (8 * i) & 0xFFU))
+            return false;
+    return true;
+}
+
 static void take_answer(void)
 {
     uint8_t answer[WAGGLELOFT_ANSWER_LONGEST];
     size_t written = 0;
     uint32_t number = waggleloft_answer(work, WAGGLELOFT_WORK_WORDS, answer, sizeof answer, &written);
     if (number == WAGGLELOFT_OK)
-        printf("The unit had its answer of %zu bytes ready.\n", written);
+        printf("The unit had its answer of %zu bytes ready, its checksum %s.\n", written,
+               checksum_fine(answer, written) ? "fine" : "wrong");
     else if (number == WAGGLELOFT_STORES_LEFT)
         printf("The unit had no answer yet (number %lu: stores left).\n", (unsigned long)number);
     else

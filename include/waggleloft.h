@@ -213,7 +213,9 @@ uint32_t waggleloft_store(uint32_t *work, size_t work_len, uint32_t *image,
 /*
  * Takes the answer of a work, after its last store, into the front of the
  * buffer. A boot's answer has no bytes; a request's is at most
- * WAGGLELOFT_ANSWER_LONGEST bytes and may be taken any number of times.
+ * WAGGLELOFT_ANSWER_LONGEST bytes and may be taken any number of times. It
+ * begins with its checksum, lowest byte first, made with the command code taken
+ * as zero: waggleloft_checksum(0, buffer + 4, *written - 4).
  *
  * Handed back, the first that applies:
  *   WAGGLELOFT_WRONG_WORK    work_len is not WAGGLELOFT_WORK_WORDS
@@ -308,7 +310,8 @@ uint32_t waggleloft_sha384_finish(const uint8_t *state, size_t state_len,
 /*
  * The mailbox checksum of a command code and the bytes after the checksum
  * field: zero minus the sum of the code's four bytes and of all bytes_len
- * bytes, modulo 2^32. Any length is taken and nothing is ever refused.
+ * bytes, modulo 2^32. Any length is taken and nothing is ever refused. A
+ * request's checksum takes its own code, an answer's the code 0.
  */
 uint32_t waggleloft_checksum(uint32_t code, const uint8_t *bytes,
                              size_t bytes_len);

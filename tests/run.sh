@@ -161,7 +161,7 @@ expect 'the demo: four cuts' \
         grep -oE 'Cut after [0-9]+ of 53 stores. The restart gives outcome [0-9]|The new program is( not)? in the list|The measurement was torn')"
 
 expect 'card 10 in words' \
-    'The result is 0 (accepted). The answer of 8 bytes has the checksum 0xFFFFFEDB and FIPS status 0 (always 0).' \
+    'The result is 0 (accepted). The answer of 8 bytes has the checksum 0x00000000 and FIPS status 0 (always 0).' \
     "$("$root/demo" request 2>/dev/null | tail -n 1)"
 printf 'LBSD\0\0\0\0' >bad_checksum
 expect 'a refusal in words' \

@@ -1,4 +1,6 @@
-//! The mailbox checksum.
+//! The mailbox checksum, and the messages that begin with it.
+
+use crate::layout::STATUS_BYTES;
 
 /// Zero minus the sum of the code's four bytes and of all `bytes`, modulo 2^32.
 pub fn checksum(code: u32, bytes: &[u8]) -> u32 {
@@ -10,16 +12,22 @@ pub fn checksum(code: u32, bytes: &[u8]) -> u32 {
     sum.wrapping_neg()
 }
 
-/// A request or an answer: the checksum, then the bytes that it covers.
+/// A request: the checksum, then the bytes that it covers.
 pub fn sealed(code: u32, bytes: &[u8]) -> Vec<u8> {
     let mut message = checksum(code, bytes).to_le_bytes().to_vec();
     message.extend_from_slice(bytes);
     message
 }
 
+/// An answer: the checksum with the code taken as zero, the FIPS status (always
+/// 0), then the command's own bytes.
+pub fn answer_of(body: &[u8]) -> Vec<u8> {
+    sealed(0, &[&[0; STATUS_BYTES], body].concat())
+}
+
 #[cfg(test)]
 mod tests {
-    use super::checksum;
+    use super::{answer_of, checksum};
 
     #[test]
     fn nothing_sums_to_zero() {
@@ -39,5 +47,18 @@ mod tests {
     #[test]
     fn code_and_bytes_add_up() {
         assert_eq!(checksum(0xFF00_0000, &[1]), 256u32.wrapping_neg());
+    }
+
+    #[test]
+    fn an_answer_without_a_body_is_zero() {
+        assert_eq!(answer_of(&[]), [0; 8]);
+    }
+
+    #[test]
+    fn an_answers_body_alone_counts() {
+        assert_eq!(
+            answer_of(&[1, 2]),
+            [0xFD, 0xFF, 0xFF, 0xFF, 0, 0, 0, 0, 1, 2]
+        );
     }
 }

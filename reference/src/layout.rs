@@ -93,8 +93,10 @@ pub fn command(code: u32) -> Option<&'static Command> {
     COMMANDS.iter().find(|command| command.code == code)
 }
 
-/// A request's checksum, and a stash's fields behind it.
+/// The checksum before a request or an answer; behind it an answer's FIPS
+/// status, or a stash's fields.
 pub const CHECKSUM_BYTES: usize = 4;
+pub const STATUS_BYTES: usize = 4;
 pub const STASH_TYPE: usize = 4;
 pub const STASH_DIGEST: usize = 8;
 pub const STASH_SVN: usize = 56;

@@ -1,7 +1,7 @@
 //! "Mailbox": a request's order of numbers, what a command comes to, and the
 //! work that it opens. An opening reads the image and changes nothing.
 
-use crate::checksum::{checksum, sealed};
+use crate::checksum::{answer_of, checksum};
 use crate::layout::*;
 use crate::memory::Unit;
 use crate::work::{Kind, Work};
@@ -127,8 +127,7 @@ pub trait Requests {
             IDENTITY => (Task::Nothing, request.table[KEY_AT..][..KEY_BYTES].to_vec()),
             _ => (Task::Nothing, vec![]),
         };
-        let status = 0u32.to_le_bytes();
-        let answer = sealed(request.code, &[&status, &body[..]].concat());
+        let answer = answer_of(&body);
         Ok(Accepted { task, answer })
     }
 

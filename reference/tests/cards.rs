@@ -1,5 +1,5 @@
-//! 01's bench cards, the small program and the two odd images; 02's cards of
-//! the running digest.
+//! 01's bench cards as 02 leaves them, the small program and the two odd
+//! images; 02's cards of the running digest.
 
 use reference::boots::Inputs;
 use reference::checksum::{checksum, sealed};
@@ -78,7 +78,7 @@ fn cards_1_to_5_checksums() {
     assert_eq!(checksum(DISABLE, &[]), 0xFFFF_FEDB);
     assert_eq!(checksum(IDENTITY, &[]), 0xFFFF_FEE5);
     assert_eq!(checksum(STASH, &[0; 56]), 0xFFFF_FEDA);
-    assert_eq!(checksum(STASH, &[0, 0, 0, 0, 2, 0, 0, 0]), 0xFFFF_FED8);
+    assert_eq!(checksum(0, &[0, 0, 0, 0, 2, 0, 0, 0]), 0xFFFF_FFFE);
     assert_eq!(checksum(0, &[]), 0);
 }
 
@@ -88,8 +88,28 @@ fn card_4_in_the_answer() {
     image[ATTESTATION] = 0;
     let work = stash(&image, 0).unwrap();
     assert_eq!(work.kind, Kind::Nothing);
-    assert_eq!(little(&work.answer), 0xFFFF_FED8);
+    assert_eq!(little(&work.answer), 0xFFFF_FFFE);
     assert_eq!(dpe(&work), DPE_OFF);
+}
+
+/// X of bytes 1 and Y of bytes 2: 48 and 96 make 144.
+#[test]
+fn an_identity_keys_answer_sums_the_key_alone() {
+    let mut table = [0xFF; TABLE_BYTES];
+    table[..4].copy_from_slice(&TABLE_MARKER.to_le_bytes());
+    table[TABLE_MAJOR_AT..][..2].copy_from_slice(&TABLE_MAJOR.to_le_bytes());
+    table[KEY_AT..][..KEY_BYTES / 2].fill(1);
+    table[KEY_AT + KEY_BYTES / 2..][..KEY_BYTES / 2].fill(2);
+    let bytes = sealed(IDENTITY, &[]);
+    let request = Request {
+        table: &table,
+        ..Request::plain(IDENTITY, &bytes)
+    };
+    let work = ENGINE.open_request(&booted(), request).unwrap();
+    assert_eq!(little(&work.answer), 144u32.wrapping_neg());
+    assert_eq!(work.answer[4..8], [0; 4]);
+    assert_eq!(work.answer[8..56], [1; 48]);
+    assert_eq!(work.answer[56..], [2; 48]);
 }
 
 #[test]
@@ -161,7 +181,7 @@ fn card_9_the_last_free_node() {
     let work = stash(&image, 0).unwrap();
     assert_eq!((dpe(&work), ENGINE.left(&work)), (DPE_FULL, 0));
     assert_eq!(work.kind, Kind::Nothing);
-    assert_eq!(little(&work.answer), 0xFFFF_FED9);
+    assert_eq!(little(&work.answer), 0xFFFF_FFFF);
 }
 
 #[test]
@@ -172,10 +192,7 @@ fn card_10_and_the_programs_other_cases() {
         mailbox(&input)
     };
     let disable = [0x4C, 0x42, 0x53, 0x44];
-    assert_eq!(
-        of(disable, [0xDB, 0xFE, 0xFF, 0xFF], 0),
-        [0, 0, 0, 0, 0xDB, 0xFE, 0xFF, 0xFF, 0, 0, 0, 0]
-    );
+    assert_eq!(of(disable, [0xDB, 0xFE, 0xFF, 0xFF], 0), [0; 12]);
     assert_eq!(of(disable, [0; 4], 0), [0x4B, 0x48, 0x43, 0x42]);
     assert_eq!(mailbox(&disable), [4, 0, 0, 0]);
     for length in 0..4 {
@@ -191,7 +208,7 @@ fn card_10_and_the_programs_other_cases() {
     );
     assert_eq!(
         of([0x53, 0x41, 0x45, 0x4D], [0xDA, 0xFE, 0xFF, 0xFF], 56),
-        [0, 0, 0, 0, 0xDA, 0xFE, 0xFF, 0xFF, 0, 0, 0, 0, 0, 0, 0, 0]
+        [0; 16]
     );
     assert_eq!(mailbox(&[0x4C; 70_000]), [3, 0, 0, 0]);
 }
@@ -392,7 +409,7 @@ fn the_answer_waits_and_keeps_the_rest_of_the_buffer() {
     assert_eq!(buffer, [0xA5; 9]);
     for _ in 0..2 {
         assert_eq!(ENGINE.answer(&work, &mut buffer), 0);
-        assert_eq!(buffer, [0xDB, 0xFE, 0xFF, 0xFF, 0, 0, 0, 0, 0xA5]);
+        assert_eq!(buffer, [0, 0, 0, 0, 0, 0, 0, 0, 0xA5]);
     }
 }
 

@@ -66,13 +66,15 @@ static uint32_t update_boot(bool verdict, uint32_t *outcome)
     return waggleloft_open_update_boot(image, IMAGE, digest, DIGEST, secret, DIGEST, verdict, work, WORK, outcome);
 }
 
-static uint32_t ask(uint32_t code, size_t len)
+static uint32_t ask_with(uint32_t code, size_t len, const uint8_t *handoff, size_t handoff_len, bool verdict)
 {
     uint32_t sum = waggleloft_checksum(code, request + 4, len - 4);
     for (size_t i = 0; i < 4; i++)
         request[i] = (uint8_t)(sum >> (8 * i) & 0xFFU);
-    return waggleloft_open_request(image, IMAGE, code, request, len, 7, none, 0, false, work, WORK);
+    return waggleloft_open_request(image, IMAGE, code, request, len, 7, handoff, handoff_len, verdict, work, WORK);
 }
+
+static uint32_t ask(uint32_t code, size_t len) { return ask_with(code, len, none, 0, false); }
 
 static size_t run(size_t most)
 {
@@ -263,10 +265,36 @@ static void check_answers(void)
     for (size_t len = 0; len <= 20; len++)
         all = answer_holds(len, len < 12 ? WAGGLELOFT_SHORT_BUFFER : WAGGLELOFT_OK, 12) && all;
     check(all, "the answer of a stash into buffers of every length");
+}
+
+/* All stores of the work in hand are made, and its answer is exactly these bytes. */
+static bool answers(const uint8_t *expected, size_t len)
+{
     size_t written = 0;
-    check(waggleloft_answer(work, WORK, buffer, LONGEST, &written) == WAGGLELOFT_OK && written == 12 &&
-              memcmp(buffer + 4, "\0\0\0\0\0\0\0\0", 8) == 0,
-          "the answer of an accepted stash: status 0, dpe result 0");
+    run(SIZE_MAX);
+    fill_bytes(buffer, LONGEST);
+    return waggleloft_answer(work, WORK, buffer, LONGEST, &written) == WAGGLELOFT_OK && written == len &&
+           memcmp(buffer, expected, len) == 0;
+}
+
+/* Each command's answer whole, worked out by hand: checksum (0 minus the sum of the body), status 0, body. */
+static void check_answer_bytes(void)
+{
+    const uint8_t zeros[12] = {0};
+    const uint8_t off[12] = {0xFE, 0xFF, 0xFF, 0xFF, 0, 0, 0, 0, 2};
+    uint8_t handoff[2048] = {'C', 'F', 'H', 'T', 1}, key[LONGEST] = {0x70, 0xFF, 0xFF, 0xFF};
+    memset(handoff + 304, 1, 48); /* X: 48 in all */
+    memset(handoff + 352, 2, 48); /* Y: 96, so 0x90 with X */
+    memcpy(key + 8, handoff + 304, 96);
+    fresh();
+    check(ask(WAGGLELOFT_STASH_MEASUREMENT, 60) == WAGGLELOFT_OK && answers(zeros, 12), "an accepted stash's answer");
+    check(ask_with(WAGGLELOFT_IDENTITY_KEY, 4, handoff, sizeof handoff, false) == WAGGLELOFT_OK && answers(key, LONGEST),
+          "an identity key's answer");
+    check(ask_with(WAGGLELOFT_VERIFY_SIGNATURE, 196, none, 0, true) == WAGGLELOFT_OK && answers(zeros, 8),
+          "a signature's answer");
+    check(ask(WAGGLELOFT_DISABLE_ATTESTATION, 4) == WAGGLELOFT_OK && answers(zeros, 8), "a disable command's answer");
+    check(ask(WAGGLELOFT_STASH_MEASUREMENT, 60) == WAGGLELOFT_OK && answers(off, 12),
+          "card 4: the answer of a stash while off");
 }
 
 /* Works of other lengths: their own number, and nothing is written. */
@@ -454,6 +482,7 @@ int main(void)
     check_stores();
     check_cuts();
     check_answers();
+    check_answer_bytes();
     check_work_lengths();
     check_image_lengths();
     check_refused_boots();

@@ -65,6 +65,8 @@ examples() { # SUFFIX COMMAND..
     done
     expect "midnight$suffix 53" 'Attestation is on. The new measurement is in the list, and all earlier ones are.' \
         "$(midnight "$@" "$built/midnight$suffix" 53)"
+    expect "midnight$suffix 53, its answer" 'The unit had its answer of 12 bytes ready, its checksum fine.' \
+        "$("$@" "$built/midnight$suffix" 53 | grep answer)"
 }
 
 all() { # SUFFIX COMMAND..

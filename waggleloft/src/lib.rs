@@ -83,7 +83,8 @@ pub fn sha384_into(message: &[u8], buffer: &mut [u8]) -> Result<(), Refusal> {
 }
 
 /// The mailbox checksum of a command code and of the bytes after the checksum field: zero minus the
-/// sum of the code's four bytes and of all the bytes, modulo 2^32.
+/// sum of the code's four bytes and of all the bytes, modulo 2^32. A request's takes its own code,
+/// an answer's the code 0.
 pub fn checksum(code: u32, bytes: &[u8]) -> u32 {
     archive::checksum(code, bytes)
 }

@@ -138,7 +138,8 @@ impl Work {
     }
 
     /// Takes the answer, after the last store, into the front of a buffer: its length. The buffer's
-    /// other bytes stay.
+    /// other bytes stay. A request's answer begins with its checksum, lowest byte first, made with the
+    /// command code taken as zero: [`checksum`](crate::checksum)`(0, &buffer[4..length])`.
     ///
     /// Refused, with nothing written: [`Refusal::StoresLeft`], then [`Refusal::ShortBuffer`].
     pub fn answer(&self, buffer: &mut [u8]) -> Result<usize, Refusal> {

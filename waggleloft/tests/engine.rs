@@ -130,14 +130,15 @@ fn a_declined_stash_is_answered() {
     assert_eq!(run(&mut work, &mut image, usize::MAX), 15);
     assert_eq!(open_stash(&mut work, &image), Ok(()));
     assert_eq!(work.left(), 0);
-    let mut answer = [0; 12];
+    let mut answer = [0xEE; 12];
     assert_eq!(work.answer(&mut answer[..11]), Err(Refusal::ShortBuffer));
     assert_eq!(work.answer(&mut answer), Ok(12));
     assert_eq!(
-        answer[8..],
-        [2, 0, 0, 0],
-        "dpe result 2: attestation is off"
+        answer,
+        [0xFE, 0xFF, 0xFF, 0xFF, 0, 0, 0, 0, 2, 0, 0, 0],
+        "checksum 0 - 2, status 0, dpe result 2: attestation is off"
     );
+    assert_eq!(checksum(0, &answer[4..]).to_le_bytes(), answer[..4]);
 }
 
 #[test]

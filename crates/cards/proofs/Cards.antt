@@ -1,5 +1,5 @@
--- Bench cards *1 to *9 hold. Assumes nothing.
-use mathlib.Core.Path.{_≡_, refl}
+-- Bench cards *1 to *9 and 10 hold. Assumes nothing.
+use mathlib.Core.Path.{_≡_, refl, _∙_}
 use mathlib.Core.Logic.{⊎-elim}
 use Prim.Native.Nat.{ℕ}
 use native.Mathlib.Omega.{arith}
@@ -14,11 +14,13 @@ use Rattle.message.specs.Checksum.{checksumOf}
 use Rattle.tree.specs.Nodes.{treeIn}
 use Rattle.tree.proofs.Cycles.{own-parent}
 use Rattle.work.specs.Entries.{storeNumber}
+use Rattle.opening.specs.Rules.{answerOf}
 use Rattle.opening.specs.Openings.{openRequest, openColdBoot, openUpdateBoot}
 use Rattle.cards.specs.Cards.{GivesOne, StashRequest, Cards}
 use Rattle.cards.specs.Images.{imageWith, ownParentImage, zeroStash}
 use Rattle.cards.proofs.Serving.{declines-off, accepts, declines}
 use Rattle.cards.proofs.Images.{root-word, serving, used-count, loop-used, loop-parent}
+use Rattle.cards.proofs.Program.{disabled-output}
 
 -- *6: the first rule of every entry
 
@@ -50,4 +52,5 @@ cards =
       accepted9 =
           accepts (imageWith 23) zeroStash zero-stash (serving 23 (omega arith) (omega arith)) (omega (arith, used-count 23 (omega arith) (omega arith)));
       declined9 = declines (imageWith 24) zeroStash zero-stash (serving 24 (omega arith) (omega arith)) (used-count 24 (omega arith) (omega arith));
+      card10 = disabled-output ∙ unfold answerOf checksumOf zeros in refl;
     }

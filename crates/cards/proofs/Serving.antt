@@ -55,7 +55,7 @@ module _ (m : List ℕ) (r : Request) (q : StashRequest r) where
   task = stash (measurementIn r)
 
   abbrev answer : ℕ → List ℕ
-  answer n = answerOf (r .code) (bytes4 n)
+  answer n = answerOf (bytes4 n)
 
   sum-fits : wrongChecksum (r .code) (r .bytes) ≡ false
   unfolding wrongChecksum
@@ -74,9 +74,9 @@ module _ (m : List ℕ) (r : Request) (q : StashRequest r) where
   unfolding openRequest viewIn
   ruled-off s = rw (sum-fits, s .size, s .done, ne-eqb (getD m attestationAt 0) 1 (s .off), q .code, q .size)
 
-  pub declines-off : SwitchedOff m → Declined (openRequest m r) 2 × (le32 (openRequest m r .work .answer) 0 ≡ 0xFFFFFED8)
+  pub declines-off : SwitchedOff m → Declined (openRequest m r) 2 × (le32 (openRequest m r .work .answer) 0 ≡ 0xFFFFFFFE)
   unfolding workAt workWith answerOf checksumOf
-  declines-off s = (declined 2 (omega arith) (ruled-off s), rw (ruled-off s, q .code))
+  declines-off s = (declined 2 (omega arith) (ruled-off s), rw (ruled-off s))
 
   module _ (s : Serving m) where
     -- the task and the dpe result, by "no node is free"

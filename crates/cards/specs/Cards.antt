@@ -1,9 +1,10 @@
--- Document 01's bench cards *1 to *9, "shown by proof as one table under a single statement". Assumes nothing.
+-- Document 01's bench cards *1 to *9, "shown by proof as one table under a single statement", and card 10; 4 and 10 as document 02, §11, has them.
+-- Assumes nothing.
 use mathlib.Core.Path.{_≡_}
 use mathlib.Core.Logic.{_⊎_, _≢_}
 use Prim.Native.Nat.{ℕ, _<_, _≤_}
 use mathlib.Core.Bool.{Bool, true, false}
-use mathlib.Core.List.{List, []}
+use mathlib.Core.List.{List, [], _∷_}
 use lib.ListN.{length, getD, drop}
 use Rattle.layout.specs.Sizes.{nodeCount, imageWords, markAt, attestationAt}
 use Rattle.layout.specs.Words.{le32, zeros}
@@ -20,6 +21,7 @@ use Rattle.opening.specs.Tasks.{Request, BootInputs}
 use Rattle.opening.specs.Openings.{statusNumber, bootNumber, openRequest, openColdBoot, openUpdateBoot, coldBooted}
 use Rattle.opening.specs.declared.Status.the-variants as status
 use Rattle.opening.specs.declared.Opened.{Opened}
+use Rattle.respond.specs.Program.{programOutput}
 use Rattle.cards.specs.Images.{imageWith, ownParentImage, zeroStash}
 
 -- ---- what cards 4, 6 and 9 say
@@ -75,9 +77,9 @@ pub record Cards : Type 0 where
   pub card2 : checksumOf 0x49444549 [] ≡ 0xFFFFFEE5
   -- *3 "Stash, 56 zero bytes: 0xFFFFFEDA."
   pub card3 : checksumOf 0x4D454153 (zeros 56) ≡ 0xFFFFFEDA
-  -- *4 "Stash answer with dpe result 2: 0xFFFFFED8.": the answer of every stash request at every image with attestation off
+  -- *4 "Stash answer with dpe result 2": 0xFFFFFFFE since document 02, §11; the answer of every stash request at every image with attestation off
   pub card4 : (image : List ℕ) (r : Request) → SwitchedOff image → StashRequest r
-      → Declined (openRequest image r) 2 × (le32 (openRequest image r .work .answer) 0 ≡ 0xFFFFFED8)
+      → Declined (openRequest image r) 2 × (le32 (openRequest image r .work .answer) 0 ≡ 0xFFFFFFFE)
   -- *5 "Code 0, no bytes: 0."
   pub card5 : checksumOf 0 [] ≡ 0
   -- *6 "Images of 1,215 and 1,217 words: 1.": every such image
@@ -93,3 +95,5 @@ pub record Cards : Type 0 where
   pub images9 : (k : ℕ) → 0 < k → k ≤ 24 → Serving (imageWith k) × (usedNodes (imageWith k) ≡ k)
   pub accepted9 : Accepted (openRequest (imageWith 23) zeroStash)
   pub declined9 : Declined (openRequest (imageWith 24) zeroStash) 1
+  -- 10 "Program, input `4C 42 53 44 DB FE FF FF`": twelve zero bytes since document 02, §11
+  pub card10 : programOutput (0x4C ∷ 0x42 ∷ 0x53 ∷ 0x44 ∷ 0xDB ∷ 0xFE ∷ 0xFF ∷ 0xFF ∷ []) ≡ zeros 12

@@ -9,9 +9,8 @@ use mathlib.Core.Bool.{Bool, true, false, cond, not, _&&_, _||_, or-false, true�
 use mathlib.Core.List.{List, [], _∷_, _++_, foldl-append}
 use lib.Dec.{eqb, leb}
 use borrow.Author.Tests.{leb-false}
-use lib.ListN.{length, getD, take, drop, length-take}
+use lib.ListN.{length, getD}
 use Rattle.layout.specs.Sizes.{nodeCount, imageWords, markAt, attestationAt, answerMax}
-use Rattle.layout.specs.Words.{bytes4}
 use Rattle.layout.specs.Refusals.{unfinished, unknownCode}
 use Rattle.tree.specs.Tree.{Tree, wellFormed, lowestFree}
 use Rattle.tree.specs.Nodes.{treeIn}
@@ -19,9 +18,9 @@ use Rattle.table.specs.Table.{numberOf, indexOk}
 use Rattle.table.specs.declared.Put.{Put}
 use Rattle.work.proofs.Plans.{apply, length-apply}
 use Rattle.opening.specs.Tasks.{Request, BootInputs, Task, noStores, keptBoot, disableCommand, update, Ruling, refused, accepted, View}
-use Rattle.opening.specs.Rules.{refuses, decide, Command, stashMeasurement, commandOf, declined, served, commandRules, requestRules, requestRuling, updateTask}
+use Rattle.opening.specs.Rules.{refuses, Command, stashMeasurement, commandOf, served, ruled, commandRules, requestRules, updateTask}
 use Rattle.opening.specs.Works.{factsOf}
-use Rattle.opening.proofs.Decided.{commands, NoneApply, decided, negated, short}
+use Rattle.opening.proofs.Decided.{commands, NoneApply, ruled-decided, negated, declined-short, served-short}
 use Rattle.opening.specs.Openings.{viewIn, intact}
 use Rattle.history.specs.Ledger.{Chain, Contents, treeAt, next, blank, stateOf, imageOf, any, disables, isNone, isDisableCommand, isOff, viewOf}
 use Rattle.history.specs.Demand.{Shut}
@@ -156,23 +155,22 @@ finish {l} {h} (broken n m) tk f p =
 
 -- the request rules' decision
 unfoldable pub ruling : View → Request → Ruling
-ruling v r = requestRuling (requestRules v r) r
+ruling v r = ruled (requestRules v r) (commandOf (r .code)) r
 
 -- where attestation is off the rules do not look at the nodes
 pub off-rules : (v w : View) (r : Request) → v .done ≡ w .done → v .on ≡ false → w .on ≡ false → ruling v r ≡ ruling w r
 unfolding ruling
 off-rules v w r p a b =
     (λ i. ruling (record { done = p i; on = a i; nodes = v .nodes }) r)
-    ∙ commands (λ (c : Command). ruled c (off (v .nodes)) ≡ ruled c (off (w .nodes))) refl refl refl refl refl (r .code)
+    ∙ commands (λ (c : Command). by-command c (off (v .nodes)) ≡ by-command c (off (w .nodes))) refl refl refl refl refl (r .code)
     ∙ (λ i. ruling (record { done = w .done; on = sym b i; nodes = w .nodes }) r)
   where
     off : Tree → View
     off t = record { done = w .done; on = false; nodes = t }
 
     -- the rules, with the command as a variable
-    ruled : Command → View → Ruling
-    ruled c v =
-        decide (refuses unfinished (not (v .done)) ∷ refuses unknownCode (not (c .known)) ∷ commandRules c v r) (declined r) (served c r)
+    by-command : Command → View → Ruling
+    by-command c v = ruled (refuses unfinished (not (v .done)) ∷ refuses unknownCode (not (c .known)) ∷ commandRules c v r) c r
 
 -- an unfinished mark refuses every request
 unfinished-rules : (v : View) (r : Request) → v .done ≡ false → ruling v r ≡ refused unfinished
@@ -237,9 +235,9 @@ disable-fits h t =
     }
 
 module _ (h : List Task) (t : Bool) (v : View) (r : Request) (on : v .on ≡ true → t ≡ false) (nodes : v .nodes ≡ treeAt (stateOf h .chain)) where
-  -- a command that nothing refused or declined
+  -- the task of a command that nothing refused or declined
   command-fits : (c : Command) → Type 0
-  command-fits c = NoneApply (c .rules v r) → FitsRuling h t false false (served c r)
+  command-fits c = NoneApply (c .rules v r) → Fits h t false (c .task r) × (false ≡ isBoot (c .task r))
 
   stash-fits : command-fits stashMeasurement
   unfolding command-fits numberOf
@@ -253,26 +251,25 @@ module _ (h : List Task) (t : Bool) (v : View) (r : Request) (on : v .on ≡ tru
               subst (λ (x : Tree). lowestFree nodeCount x < nodeCount) nodes (omega (arith, leb-false nodeCount (lowestFree nodeCount (v .nodes)) free)));
           off = λ e q. absurd (false≢true q);
         },
-        short (r .code) (bytes4 0) (omega arith),
         refl,
       )
 
   fits-command : NoneApply (commandOf (r .code) .rules v r) → FitsRuling h t false false (served (commandOf (r .code)) r)
   unfolding command-fits
-  fits-command =
-      commands command-fits stash-fits (λ n. (disable-fits h t, short (r .code) [] (omega arith), refl))
-      (λ n. (idle-fits h t, short (r .code) (take 96 (drop 304 (r .handoff))) (omega (arith, length-take 96 (drop 304 (r .handoff)))), refl))
-      (λ n. (idle-fits h t, short (r .code) [] (omega arith), refl))
-      (λ n. (idle-fits h t, short (r .code) [] (omega arith), refl))
-      (r .code)
+  fits-command n =
+      let f = commands command-fits stash-fits (λ e. (disable-fits h t, refl)) (λ e. idle) (λ e. idle) (λ e. idle) (r .code) n in
+      (f .0, served-short (r .code) r, f .1)
+    where
+      idle : Fits h t false noStores × (false ≡ isBoot noStores)
+      idle = (idle-fits h t, refl)
 
 pub fits-rule : (h : List Task) (t u : Bool) (r : Request) → FitsRuling h t u false (ruling (viewOf h t u) r)
 unfolding ruling viewOf
 fits-rule h t true r = tt
 fits-rule h t false r =
-    decided (FitsRuling h t false false) (requestRules (viewOf h t false) r) (declined r) (served (commandOf (r .code)) r)
+    ruled-decided (FitsRuling h t false false) (requestRules (viewOf h t false) r) (commandOf (r .code)) r
     (λ n. tt)
-    (λ n. (idle-fits h t, short (r .code) (bytes4 n) (omega arith), refl))
+    (λ n. (idle-fits h t, declined-short n, refl))
     (λ n. fits-command h t (viewOf h t false) r (left-false t (any disables h)) refl (n .1 .1 .1 .1))
 
 -- ---- the update boot decides as the ledger does

@@ -13,7 +13,7 @@ use Rattle.layout.specs.Sizes.{nodeCount}
 use Rattle.layout.specs.Refusals.{wrongInputs, storesLeft, shortBuffer, notWellFormed}
 use Rattle.tree.specs.Tree.{wellFormed}
 use Rattle.opening.specs.Tasks.{Request, BootInputs, Task, Ruling, refused, accepted, View}
-use Rattle.opening.specs.Rules.{Verdict, refuse, decline, Rule, judged, decide, Command, commandOf, declined, served, requestRules, inputsOk, updateTask}
+use Rattle.opening.specs.Rules.{Verdict, refuse, decline, Rule, judged, Command, commandOf, declined, ruled, requestRules, inputsOk, updateTask}
 use Rattle.opening.specs.Openings.{openColdBoot, bootNumber}
 use Rattle.history.specs.Calls.{Call, request, updateBoot, store, answer, powerCut, Result, refusal, opened, booted, stored, answered, noWork, cutOff, Machine, Step, step, run}
 use Rattle.history.specs.Ledger.{Job, Ledger, stateOf, isOff, letGo, viewOf, ledgerRequest, ledgerBoot, updateRuling, ledgerStore, ledgerAnswer, ledgerStep, firstLedger}
@@ -37,12 +37,12 @@ abbrev No11 : List Rule → Type 0
 No11 [] = Unit {0}
 No11 (r ∷ rs) = (r .applies ≡ true → Not11 (r .verdict)) × (r .applies ≡ false → No11 rs)
 
-no-11 : (rs : List Rule) (r : Request) (R : Ruling) → No11 rs → NotRefused11 R → NotRefused11 (decide rs (declined r) R)
-no-11 [] q R a p = p
-no-11 (r ∷ rs) q R a p = go (r .applies) (r .verdict) (a .0) (λ e. no-11 rs q R (a .1 e) p) refl
+no-11 : (rs : List Rule) (c : Command) (r : Request) → No11 rs → NotRefused11 (ruled rs c r)
+no-11 [] c q a = tt
+no-11 (r ∷ rs) c q a = go (r .applies) (r .verdict) (a .0) (λ e. no-11 rs c q (a .1 e)) refl
   where
-    go : (b : Bool) (v : Verdict) → (b ≡ true → Not11 v) → (r .applies ≡ false → NotRefused11 (decide rs (declined q) R)) → r .applies ≡ b
-        → NotRefused11 (cond b (judged (declined q) v) (decide rs (declined q) R))
+    go : (b : Bool) (v : Verdict) → (b ≡ true → Not11 v) → (r .applies ≡ false → NotRefused11 (ruled rs c q)) → r .applies ≡ b
+        → NotRefused11 (cond b (judged declined v) (ruled rs c q))
     go true (refuse n) n11 on e = n11 refl
     go true (decline n) n11 on e = tt
     go false v n11 on e = on e
@@ -61,8 +61,8 @@ module _ (v : View) (r : Request) (formed : v .on ≡ true → wellFormed nodeCo
   request-rules : NotRefused11 (ruling v r)
   unfolding ruling
   request-rules =
-      no-11 (requestRules v r) r (served (commandOf (r .code)) r)
-      (λ e z. omega arith, λ e. (λ q z. omega arith, λ q. (λ p z. omega arith, λ p. (λ s z. omega arith, λ s. own-rules (r .code))))) tt
+      no-11 (requestRules v r) (commandOf (r .code)) r
+      (λ e z. omega arith, λ e. (λ q z. omega arith, λ q. (λ p z. omega arith, λ p. (λ s z. omega arith, λ s. own-rules (r .code)))))
 
 ground-rules : {l : List ℕ} {h : List Task} {t u : Bool} → Ground l h t u → (r : Request) → NotRefused11 (ruling (viewOf h t u) r)
 unfolding viewOf

@@ -15,7 +15,7 @@ use Rattle.nodes.specs.Record.{Node, retiredHandle, placeRow, withHandle, withC
 use Rattle.table.specs.Table.{numberOf}
 use Rattle.opening.specs.Values.{measured, childNode, rootNode}
 use Rattle.opening.specs.Tasks.{BootInputs, Task, noStores, keptBoot, disableCommand, disablingBoot, stash, update, coldBoot, Ruling, refused, accepted, View}
-use Rattle.opening.specs.Rules.{requestRules, requestRuling, bootRules, bootRuling, updateTask}
+use Rattle.opening.specs.Rules.{commandOf, ruled, requestRules, bootRules, bootRuling, updateTask}
 use Rattle.opening.specs.Works.{factsOf}
 use Rattle.opening.specs.Openings.{outcomeOf, outcomeNumber}
 use Rattle.opening.specs.declared.Outcome.{Outcome}
@@ -204,7 +204,7 @@ ledgerAnswer (some j) made buffer =
 
 -- one call; "Refused calls change nothing."
 unfoldable pub ledgerStep : Ledger → Call → Step Ledger
-ledgerStep b (request r) = ledgerRequest b (requestRuling (requestRules (viewOf (b .history) (b .torn) (b .unfinished)) r) r)
+ledgerStep b (request r) = ledgerRequest b (ruled (requestRules (viewOf (b .history) (b .torn) (b .unfinished)) r) (commandOf (r .code)) r)
 ledgerStep b (updateBoot x verdict) = ledgerBoot b (updateRuling b x verdict)
 ledgerStep b store = ledgerStore b (b .hand)
 ledgerStep b (answer buffer) = record { state = b; result = ledgerAnswer (b .hand) (b .made) buffer }

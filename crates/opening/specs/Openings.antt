@@ -14,7 +14,7 @@ use Rattle.making.specs.Run.{allStores}
 use Rattle.making.specs.Made.{refusedWork}
 use Rattle.work.specs.declared.Work.{Work}
 use Rattle.opening.specs.Tasks.{Request, BootInputs, coldBoot, Ruling, refused, accepted, View}
-use Rattle.opening.specs.Rules.{Rule, refuses, requestRules, requestRuling, bootRules, bootRuling, updateTask}
+use Rattle.opening.specs.Rules.{Rule, refuses, commandOf, ruled, requestRules, bootRules, bootRuling, updateTask}
 use Rattle.opening.specs.Works.{factsOf, workAt}
 use Rattle.opening.specs.declared.Status.{Status}
 use Rattle.opening.specs.declared.Status.the-variants as status
@@ -74,7 +74,7 @@ unfoldable pub viewIn : List ℕ → View
 viewIn image = record { done = eqb (getD image markAt 0) 1; on = eqb (getD image attestationAt 0) 1; nodes = treeIn image }
 
 unfoldable pub openRequest : List ℕ → Request → Opened
-openRequest image r = openedOf image (requestRuling (sizeRule image ∷ requestRules (viewIn image) r) r)
+openRequest image r = openedOf image (ruled (sizeRule image ∷ requestRules (viewIn image) r) (commandOf (r .code)) r)
 
 unfoldable pub openColdBoot : List ℕ → BootInputs → Booted
 openColdBoot image x = bootedOf image (bootRuling (sizeRule image ∷ bootRules x) (coldBoot x))

@@ -138,17 +138,21 @@ commandOf code =
 
 -- ---- the entries' orders
 
--- every answer: its checksum "with the same code", the FIPS status 0, then the command's own bytes
-unfoldable pub answerOf : ℕ → List ℕ → List ℕ
-answerOf code rest = bytes4 (checksumOf code (bytes4 0 ++ rest)) ++ (bytes4 0 ++ rest)
+-- every answer: its checksum with "the command code taken as zero" (document 02, §11), the FIPS status 0, then the command's own bytes
+unfoldable pub answerOf : List ℕ → List ℕ
+answerOf rest = bytes4 (checksumOf 0 (bytes4 0 ++ rest)) ++ (bytes4 0 ++ rest)
 
 -- a declined request stores nothing, and its dpe result is in the answer
-abbrev pub declined : Request → ℕ → Ruling
-declined r n = accepted noStores (answerOf (r .code) (bytes4 n))
+abbrev pub declined : ℕ → Ruling
+declined n = accepted noStores (answerOf (bytes4 n))
 
 -- what a command comes to where no rule applies
 abbrev pub served : Command → Request → Ruling
-served c r = accepted (c .task r) (answerOf (r .code) (c .answer r))
+served c r = accepted (c .task r) (answerOf (c .answer r))
+
+-- what a command's request comes to by a list of rules
+abbrev pub ruled : List Rule → Command → Request → Ruling
+ruled rules c r = decide rules declined (served c r)
 
 -- length and checksum first, and then the command's own rules
 abbrev pub commandRules : Command → View → Request → List Rule
@@ -163,11 +167,7 @@ requestRules v r =
 
 -- what a command comes to where the mark and the code are fine
 unfoldable pub commandRuling : Command → View → Request → Ruling
-commandRuling c v r = decide (commandRules c v r) (declined r) (served c r)
-
--- what a request comes to by a list of rules
-abbrev pub requestRuling : List Rule → Request → Ruling
-requestRuling rules r = decide rules (declined r) (served (commandOf (r .code)) r)
+commandRuling c v r = ruled (commandRules c v r) c r
 
 -- a boot's inputs: 48 bytes each, and the secret not all zero
 unfoldable pub inputsOk : BootInputs → Bool

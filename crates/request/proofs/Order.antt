@@ -12,7 +12,7 @@ use Rattle.layout.specs.Refusals as number
 use Rattle.layout.proofs.Cases.{and-left}
 use Rattle.making.specs.Made.{refusedWork}
 use Rattle.opening.specs.Tasks.{Request, Ruling, refused}
-use Rattle.opening.specs.Rules.{wrongChecksum, handoffOk, Command, commandOf, decide, declined, served, commandRuling}
+use Rattle.opening.specs.Rules.{wrongChecksum, handoffOk, Command, commandOf, ruled, commandRuling}
 use Rattle.opening.specs.Openings.{openedOf, viewIn, openRequest}
 use Rattle.opening.specs.declared.Status.{Status}
 use Rattle.opening.specs.declared.Status.the-variants as status
@@ -43,7 +43,7 @@ by-screen c image r n s e h =
     ∙ ap (afterScreen (openedOf image rest)) h
   where
     rest : Ruling
-    rest = decide (c .rules (viewIn image) r) (declined r) (served c r)
+    rest = ruled (c .rules (viewIn image) r) c r
 
 -- a request that passed the screen is as long as it should be
 passed : (s t : Bool) → cond s (cond t (status.Refused number.badChecksum) status.Ready) (status.Refused number.wrongLength) ≡ status.Ready → s ≡ true

@@ -6,7 +6,7 @@ use lib.Dec.{eqb}
 use lib.ListN.{length}
 use Rattle.layout.specs.Refusals as number
 use Rattle.opening.specs.Tasks.{Request}
-use Rattle.opening.specs.Rules.{wrongChecksum, Command, decide, declined, served, commandRuling}
+use Rattle.opening.specs.Rules.{wrongChecksum, Command, ruled, commandRuling}
 use Rattle.opening.specs.Openings.{openedOf, viewIn}
 use Rattle.opening.specs.declared.Status.{Status}
 use Rattle.opening.specs.declared.Status.the-variants as status
@@ -23,4 +23,4 @@ commandOpened c image r = openedOf image (commandRuling c (viewIn image) r)
 
 -- and once the screen has passed
 unfoldable pub screenedOpened : Command → List ℕ → Request → Opened
-screenedOpened c image r = openedOf image (decide (c .rules (viewIn image) r) (declined r) (served c r))
+screenedOpened c image r = openedOf image (ruled (c .rules (viewIn image) r) c r)

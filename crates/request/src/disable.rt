@@ -20,6 +20,6 @@ pub(crate) fn open_disable(image: &[u32], bytes: &[u8], n: usize) -> Opened
     let status = screen(DISABLE_CODE, bytes, n);
     match status {
         Status::Refused(number) => return refused(number),
-        Status::Ready => return ready_plain(Kind::Disabling, DISABLE_CODE, &bytes[..0]),
+        Status::Ready => return ready_plain(Kind::Disabling, &bytes[..0]),
     }
 }

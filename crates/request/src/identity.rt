@@ -48,7 +48,7 @@ pub(crate) fn open_identity(image: &[u32], bytes: &[u8], n: usize, handoff: &[u8
         Status::Refused(number) => return refused(number),
         Status::Ready => {
             if handoff_ok(handoff) {
-                return ready_plain(Kind::Nothing, IDENTITY_CODE, &handoff[KEY_START..KEY_END]);
+                return ready_plain(Kind::Nothing, &handoff[KEY_START..KEY_END]);
             } else {
                 return refused(WRONG_TABLE);
             }

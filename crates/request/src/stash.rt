@@ -77,25 +77,20 @@ fn stash_values(image: &[u32], bytes: &[u8], caller: u32, holder: usize) -> Valu
 // An accepted stash, at the free node `node`.
 fn accepted(image: &[u32], bytes: &[u8], caller: u32, node: usize) -> Opened
     requires { ⌜ (length (now bytes) ≡ stashLength) × (node ≡ lowestFree nodeCount (treeIn (now image))) ⌝ }
-    ensures { λ r. ⌜ r ≡ record { work = workAt (now (image .entry)) (stash (measurementIn (requestOf stashCode (now (bytes .entry)) caller [] false))) (answerOf stashCode (bytes4 0)); status = Status.Ready } ⌝ }
+    ensures { λ r. ⌜ r ≡ record { work = workAt (now (image .entry)) (stash (measurementIn (requestOf stashCode (now (bytes .entry)) caller [] false))) (answerOf (bytes4 0)); status = Status.Ready } ⌝ }
 {
     let holder = holder_index(image);
     let values = stash_values(image, bytes, caller, holder);
     let dpe = four(DPE_ACCEPTED);
-    ready_with(
-        Kind::Stash(StashAt { node, holder }),
-        values,
-        STASH_CODE,
-        &dpe,
-    )
+    ready_with(Kind::Stash(StashAt { node, holder }), values, &dpe)
 }
 
 // A declined stash: nothing to store, and its dpe result in the answer.
 fn declined(result: u32) -> Opened
-    ensures { λ r. ⌜ r ≡ record { work = plainWork Kind.Nothing (answerOf stashCode (bytes4 result)); status = Status.Ready } ⌝ }
+    ensures { λ r. ⌜ r ≡ record { work = plainWork Kind.Nothing (answerOf (bytes4 result)); status = Status.Ready } ⌝ }
 {
     let dpe = four(result);
-    ready_plain(Kind::Nothing, STASH_CODE, &dpe)
+    ready_plain(Kind::Nothing, &dpe)
 }
 
 // After length and checksum.

@@ -22,7 +22,7 @@ pub(crate) fn open_verify(image: &[u32], bytes: &[u8], n: usize, verdict: bool) 
         Status::Refused(number) => return refused(number),
         Status::Ready => {
             if verdict {
-                return ready_plain(Kind::Nothing, VERIFY_CODE, &bytes[..0]);
+                return ready_plain(Kind::Nothing, &bytes[..0]);
             } else {
                 return refused(BAD_SIGNATURE);
             }

@@ -3,12 +3,11 @@
 use Prim.Native.Nat.{ℕ, _<_, _≤_}
 use mathlib.Core.Path.{_≡_, sym, ap, _∙_}
 use mathlib.Core.Bool.{true, not}
-use mathlib.Core.List.{List, [], _∷_}
+use mathlib.Core.List.{List, _∷_}
 use native.Mathlib.Omega.{arith}
-use lib.ListN.{length, take, drop, length-take}
+use lib.ListN.{length}
 use borrow.Author.Tests.{lt-ltb, le-leb, leb-false}
 use Rattle.layout.specs.Sizes.{nodeCount, imageWords, answerMax}
-use Rattle.layout.specs.Words.{bytes4}
 use Rattle.tree.specs.Tree.{wellFormed, lowestFree, nodeWith, defaultWords}
 use Rattle.tree.specs.Nodes.{treeIn}
 use Rattle.tree.proofs.WellFormed.{holder-only}
@@ -18,9 +17,9 @@ use Rattle.making.specs.Run.{allStores}
 use Rattle.making.specs.Made.{workWith}
 use Rattle.making.proofs.After.{all-finished}
 use Rattle.opening.specs.Tasks.{Request, noStores, disableCommand, stash, Measurement, Ruling, refused, accepted}
-use Rattle.opening.specs.Rules.{decline, Command, stashMeasurement, commandOf, declined, served, requestRules, requestRuling}
+use Rattle.opening.specs.Rules.{Command, stashMeasurement, commandOf, served, ruled, requestRules}
 use Rattle.opening.specs.Works.{workAt}
-use Rattle.opening.proofs.Decided.{commands, NoneApply, decided, negated, short}
+use Rattle.opening.proofs.Decided.{commands, NoneApply, ruled-decided, negated, declined-short, served-short}
 use Rattle.opening.specs.Openings.{openedOf, sizeRule, viewIn, openRequest}
 use Rattle.opening.specs.declared.Status.the-variants as status
 use Rattle.opening.specs.declared.Opened.{Opened}
@@ -54,25 +53,22 @@ stash-shaped image x a h f g =
 -- ---- the rulings of a request
 
 module _ (image : List ℕ) (r : Request) where
-  -- a command of which no rule applies
+  -- the work of a command of which no rule applies, with any answer that fits
   abbrev Serves : Command → Type 0
-  Serves c = NoneApply (c .rules (viewIn image) r) → Shaped image (served c r)
+  Serves c = NoneApply (c .rules (viewIn image) r) → (a : List ℕ) → length a ≤ answerMax → wellShaped (workAt image (c .task r) a) ≡ true
 
   -- a stash rests on its indices, which a well-formed image with a free node has
   serves-stash : Serves stashMeasurement
   unfolding viewIn
-  serves-stash n =
+  serves-stash n a h =
       let t = treeIn image in
-      stash-shaped image _ _ (short (r .code) (bytes4 0) (omega arith)) (leb-false nodeCount (lowestFree nodeCount t) (n .1 .1 .0))
+      stash-shaped image _ a h (leb-false nodeCount (lowestFree nodeCount t) (n .1 .1 .0))
       (holder-only nodeCount t (negated (wellFormed nodeCount t) (n .1 .0)) .below)
 
-  command-shaped : Serves (commandOf (r .code))
-  command-shaped =
-      commands Serves serves-stash (λ n. disabling-shaped image _ (short (r .code) [] (omega arith)))
-      (λ n. idle-shaped image _ (short (r .code) (take 96 (drop 304 (r .handoff))) (omega (arith, length-take 96 (drop 304 (r .handoff))))))
-      (λ n. idle-shaped image _ (short (r .code) [] (omega arith)))
-      (λ n. idle-shaped image _ (short (r .code) [] (omega arith)))
-      (r .code)
+  command-shaped : NoneApply (commandOf (r .code) .rules (viewIn image) r) → Shaped image (served (commandOf (r .code)) r)
+  command-shaped n =
+      commands Serves serves-stash (λ e. disabling-shaped image) (λ e. idle-shaped image) (λ e. idle-shaped image) (λ e. idle-shaped image) (r .code)
+      n _ (served-short (r .code) r)
 
   opened-shaped : (R : Ruling) → Shaped image R → openedOf image R .status ≡ status.Ready → wellShaped (openedOf image R .work) ≡ true
   opened-shaped (refused n) h e = let z : _≡_ {A = ℕ} 0 1 = cc in absurd (omega arith)
@@ -83,10 +79,10 @@ module _ (image : List ℕ) (r : Request) where
   unfolding openRequest
   ready-shaped e =
       let rules = sizeRule image ∷ requestRules (viewIn image) r in
-      let shaped : Shaped image (requestRuling rules r) =
-      decided (Shaped image) rules (declined r) (served (commandOf (r .code)) r) (λ n. tt) (λ n. idle-shaped image _ (short (r .code) (bytes4 n) (omega arith)))
-      (λ n. command-shaped (n .1 .1 .1 .1 .1)) in
-      opened-shaped (requestRuling rules r) shaped e
+      let c = commandOf (r .code) in
+      let shaped : Shaped image (ruled rules c r) =
+      ruled-decided (Shaped image) rules c r (λ n. tt) (λ n. idle-shaped image _ (declined-short n)) (λ n. command-shaped (n .1 .1 .1 .1 .1)) in
+      opened-shaped (ruled rules c r) shaped e
 
   -- so after all stores it is finished
   pub ready-finished : (o : Opened) → o ≡ openRequest image r → o .status ≡ status.Ready → length image ≡ imageWords

@@ -1,7 +1,7 @@
 //! A boot's inputs, the order of an update boot, and what boots store.
 
 use crate::boots::{Boot, Boots, Inputs, Opened};
-use crate::checksum::sealed;
+use crate::checksum::answer_of;
 use crate::engine::Paper;
 use crate::layout::*;
 use crate::memory::{Memory, Unit};
@@ -141,7 +141,7 @@ BootAnswers: "a boot's disabling has the command's answer"
         if outcome != DISABLED {
             return Ok((work, outcome));
         }
-        Ok((Work::new(Kind::Disabling, &sealed(DISABLE, &[0; 4])), outcome))
+        Ok((Work::new(Kind::Disabling, &answer_of(&[])), outcome))
     }
 }
 

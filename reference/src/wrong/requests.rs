@@ -23,6 +23,15 @@ fn also(mut order: Vec<Refusal>, line: Refusal) -> Vec<Refusal> {
     order
 }
 
+/// What a request comes to, with the code kept in the answer's checksum if the answer is one of `those`.
+fn keeping(view: &View, request: Request, those: fn(u32, &Task) -> bool) -> Result<Accepted, u32> {
+    let mut accepted = Paper.decide(view, request)?;
+    if those(request.code, &accepted.task) {
+        accepted.answer = sealed(request.code, &accepted.answer[CHECKSUM_BYTES..]);
+    }
+    Ok(accepted)
+}
+
 /// A handoff table with a part that is as it should be.
 fn mended(table: &[u8], at: usize, right: &[u8]) -> Vec<u8> {
     let mut table = table.to_vec();
@@ -153,12 +162,38 @@ TableAtLeast: "a longer table is accepted"
     }
 }
 
-AnswerWithoutCode: "an answer's checksum leaves the code out"
+StashKeepsCode: "an accepted stash's answer keeps the code in its checksum"
 [requests: Requests] {
     fn decide(&self, view: &View, request: Request) -> Result<Accepted, u32> {
-        let mut accepted = Paper.decide(view, request)?;
-        accepted.answer = sealed(0, &accepted.answer[CHECKSUM_BYTES..]);
-        Ok(accepted)
+        keeping(view, request, |code, task| code == STASH && *task != Task::Nothing)
+    }
+}
+
+DeclineKeepsCode: "a declined stash's answer keeps the code in its checksum"
+[requests: Requests] {
+    fn decide(&self, view: &View, request: Request) -> Result<Accepted, u32> {
+        keeping(view, request, |code, task| code == STASH && *task == Task::Nothing)
+    }
+}
+
+DisableKeepsCode: "a disable command's answer keeps the code in its checksum"
+[requests: Requests] {
+    fn decide(&self, view: &View, request: Request) -> Result<Accepted, u32> {
+        keeping(view, request, |code, _| code == DISABLE)
+    }
+}
+
+IdentityKeepsCode: "an identity key's answer keeps the code in its checksum"
+[requests: Requests] {
+    fn decide(&self, view: &View, request: Request) -> Result<Accepted, u32> {
+        keeping(view, request, |code, _| code == IDENTITY)
+    }
+}
+
+VerifyKeepsCode: "a signature's answer keeps the code in its checksum"
+[requests: Requests] {
+    fn decide(&self, view: &View, request: Request) -> Result<Accepted, u32> {
+        keeping(view, request, |code, _| code == VERIFY)
     }
 }
 

@@ -35,7 +35,7 @@ fn card_3_stash_with_56_zero_bytes() {
 #[test]
 fn card_4_stash_answer_with_dpe_result_2() {
     let status_and_result = [0, 0, 0, 0, 2, 0, 0, 0];
-    assert_eq!(checksum(STASH, &status_and_result), 0xFFFF_FED8);
+    assert_eq!(checksum(0, &status_and_result), 0xFFFF_FFFE);
 }
 
 #[test]

@@ -28,10 +28,10 @@ const VERIFY: [u8; 4] = *b"VGIS";
 
 /// Card 10.
 const CARD_10: [u8; 8] = [0x4C, 0x42, 0x53, 0x44, 0xDB, 0xFE, 0xFF, 0xFF];
-const CARD_10_OUTPUT: [u8; 12] = [0, 0, 0, 0, 0xDB, 0xFE, 0xFF, 0xFF, 0, 0, 0, 0];
+const CARD_10_OUTPUT: [u8; 12] = [0; 12];
 
-/// What every accepted stash writes: result 0, and the answer with dpe result 0.
-const STASHED: [u8; 16] = [0, 0, 0, 0, 0xDA, 0xFE, 0xFF, 0xFF, 0, 0, 0, 0, 0, 0, 0, 0];
+/// What every accepted stash writes: result 0, and the answer with dpe result 0, whose checksum is 0.
+const STASHED: [u8; 16] = [0; 16];
 
 /// Code, checksum and the bytes after it.
 fn request(code: [u8; 4], checksum: u32, rest: &[u8]) -> Vec<u8> {

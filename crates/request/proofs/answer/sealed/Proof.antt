@@ -1,6 +1,6 @@
 -- The rest is copied behind eight zero bytes; the checksum of what stands from byte 4 on goes to the front.
-use mathlib.Core.List.{[]}
-use Rattle.request.proofs.Sealing.{end-within, whole-length, sealed-bytes}
+use native.Mathlib.Omega.{arith}
+use Rattle.request.proofs.Sealing.{whole-length, sealed-bytes}
 use borrow.Author.Needs.{needs}
 use Rattle.request.proofs.answer.sealed.Statement.{statement}
 use Rattle.request.proofs.answer.sealed.Tie as tie
@@ -20,43 +20,23 @@ part-out-end c = search needs
 copy-requires : tie.Need-copy-requires
 copy-requires c κs = search needs
 
-sub-checksum : tie.Need-sub-checksum
-sub-checksum c = search needs
+slice-aggregate-put-checksum : tie.Need-slice-aggregate-put-checksum
+slice-aggregate-put-checksum c =
+    let d = c .before .before in
+    let g = d .before .before .before in
+    whole-length (g .args .rest .now) (d .copy .last .1 .0) (g .pre) (d .copy .ensures .1)
 
-part-checksum-start : tie.Need-part-checksum-start
-part-checksum-start c = search needs
-
-part-checksum-end : tie.Need-part-checksum-end
-part-checksum-end c =
-    let g = c .before .before .before .before .before in
-    end-within (g .args .code) 0 (g .args .rest .now) (c .before .before .copy .last .1 .0) [] (g .pre) (c .before .before .copy .ensures .1)
-
-checksum-requires : tie.Need-checksum-requires
-checksum-requires c κs = search needs
-
-four-requires : tie.Need-four-requires
-four-requires c κs = search needs
-
-slice-aggregate-copy : tie.Need-slice-aggregate-copy
-slice-aggregate-copy c = search needs
-
-slice-aggregate-copy-2 : tie.Need-slice-aggregate-copy-2
-slice-aggregate-copy-2 c =
-    let g = c .before .before .before .before .before .before .before .before .before .before in
-    whole-length (g .args .code) 0 (g .args .rest .now) (c .before .before .before .before .before .before .before .copy .last .1 .0) [] (g .pre)
-    (c .before .before .before .before .before .before .before .copy .ensures .1)
-
-copy-requires-2 : tie.Need-copy-requires-2
-copy-requires-2 c κs = search needs
+put-checksum-requires : tie.Need-put-checksum-requires
+put-checksum-requires c κs =
+    let d = c .before .before in
+    let g = d .before .before .before in
+    (omega arith, omega (arith, g .pre, whole-length (g .args .rest .now) (d .copy .last .1 .0) (g .pre) (d .copy .ensures .1)))
 
 returns : tie.Need-returns
 returns c =
-    let g = c .before .before .before .before .before .before .before .before .before .before .before .before in
-    rw (c .before .copy2 .ensures .1)
-    (sealed-bytes (g .args .code) (c .before .before .before .before .before .checksum .result) (g .args .rest .now)
-    (c .before .before .before .before .before .before .before .before .before .copy .last .1 .0) (c .before .before .before .before .four .result) (g .pre)
-    (c .before .before .before .before .before .before .before .before .before .copy .ensures .1) (c .before .before .before .before .four .ensures)
-    (c .before .before .before .before .before .checksum .ensures))
+    let d = c .before .before .before .before in
+    let g = d .before .before .before in
+    sealed-bytes (g .args .rest .now) (d .copy .last .1 .0) (g .pre) (d .copy .ensures .1) _ (c .before .put-checksum .ensures)
 
 pub sealed-spec : {M : Type 1} → statement M
 sealed-spec =
@@ -67,12 +47,6 @@ sealed-spec =
     part-out-start
     part-out-end
     copy-requires
-    sub-checksum
-    part-checksum-start
-    part-checksum-end
-    checksum-requires
-    four-requires
-    slice-aggregate-copy
-    slice-aggregate-copy-2
-    copy-requires-2
+    slice-aggregate-put-checksum
+    put-checksum-requires
     returns)
