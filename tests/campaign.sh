@@ -43,6 +43,13 @@ endless() { # PROGRAM BYTE
     echo ", status ${PIPESTATUS[1]}"
 }
 
+# Whether the output that a program's crate keeps is the second program's, for the input beside it.
+kept() { # CRATE COMMAND
+    "$second" "$2" <"crates/$1/stdin" | cmp - "crates/$1/stdout" 2>&1 && echo same
+}
+
+expect "the driver's kept output" same "$(kept driver play)"
+expect "the small program's kept output" same "$(kept mailbox mailbox)"
 expect "the driver on $scripts scripts from seed $from" '0 differences, status 0' \
     "$(ending "$second" campaign --engine "$driver" --from "$from" --count "$scripts")"
 expect 'the small program on 400 inputs' '0 differences, status 0' \
