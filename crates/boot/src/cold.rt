@@ -1,9 +1,11 @@
 // A cold boot: the same work whatever the image holds.
 ghost use mathlib.Core.Path.{_≡_};
-ghost use lib.ListN.{length};
 ghost use Rattle.opening.specs.Tasks.{bootOf};
 ghost use Rattle.opening.specs.Works.{coldValues};
 ghost use Rattle.opening.specs.Openings.{bootNumber, outcomeIn, openColdBoot, coldBooted};
+use crate::inputs::Inputs;
+use crate::inputs::extend_by_boot;
+use crate::inputs::inputs_of;
 use crate::inputs::inputs_ok;
 use crate::ready::ready_with;
 use layout::IMAGE_WORDS;
@@ -22,16 +24,14 @@ use opening::works::boot_number;
 use opening::works::boot_refused;
 use sha384::digest::extend;
 use slices::little_endian::pack;
-use slices::strings::bytes_of;
 use table::Kind;
 
 // The words that a cold boot will store.
-fn cold_values(digest: &[u8], secret: &[u8]) -> Values
-    requires { ⌜ length (now digest) ≡ 48 ⌝ }
-    ensures { λ r. ⌜ r ≡ coldValues (bootOf (now (digest .entry)) (now (secret .entry))) ⌝ }
+fn cold_values(x: Inputs) -> Values
+    ensures { λ r. ⌜ r ≡ coldValues (bootOf (x .runtime) (x .manifest) (x .secret)) ⌝ }
 {
     let zero = [0u8; 48];
-    let journey = extend(zero, bytes_of(digest, 0));
+    let journey = extend_by_boot(zero, x);
     let cumulative = extend(zero, journey);
     let register = pack(&journey, 0);
     let node = node_row(
@@ -42,7 +42,8 @@ fn cold_values(digest: &[u8], secret: &[u8]) -> Values
         ROOT_TYPE,
         0,
     );
-    let words = pack(secret, 0);
+    let secret = x.secret;
+    let words = pack(&secret, 0);
     Values {
         register,
         journey: register,
@@ -52,26 +53,27 @@ fn cold_values(digest: &[u8], secret: &[u8]) -> Values
 }
 
 // Opens a cold boot: it reads only the image's length and changes nothing.
-pub fn open_cold_boot(image: &[u32], digest: &[u8], secret: &[u8]) -> Booted
-    ensures { λ r. ⌜ r ≡ openColdBoot (now (image .entry)) (bootOf (now (digest .entry)) (now (secret .entry))) ⌝ }
-    ensures { λ r. ⌜ bootNumber (r .status) ≡ bootNumber (openColdBoot (now (image .entry)) (bootOf (now (digest .entry)) (now (secret .entry))) .status) ⌝ }
-    ensures { λ r. ⌜ outcomeIn (r .status) ≡ outcomeIn (openColdBoot (now (image .entry)) (bootOf (now (digest .entry)) (now (secret .entry))) .status) ⌝ }
+pub fn open_cold_boot(image: &[u32], runtime: &[u8], manifest: &[u8], secret: &[u8]) -> Booted
+    ensures { λ r. ⌜ r ≡ openColdBoot (now (image .entry)) (bootOf (now (runtime .entry)) (now (manifest .entry)) (now (secret .entry))) ⌝ }
+    ensures { λ r. ⌜ bootNumber (r .status) ≡ bootNumber (openColdBoot (now (image .entry)) (bootOf (now (runtime .entry)) (now (manifest .entry)) (now (secret .entry))) .status) ⌝ }
+    ensures { λ r. ⌜ outcomeIn (r .status) ≡ outcomeIn (openColdBoot (now (image .entry)) (bootOf (now (runtime .entry)) (now (manifest .entry)) (now (secret .entry))) .status) ⌝ }
 {
     if image.len() != IMAGE_WORDS {
         return boot_refused(WRONG_IMAGE);
     }
-    if !inputs_ok(digest, secret) {
+    if !inputs_ok(runtime, manifest, secret) {
         return boot_refused(WRONG_INPUTS);
     }
-    ready_with(Kind::ColdBoot, cold_values(digest, secret), Outcome::Cold)
+    let x = inputs_of(runtime, manifest, secret);
+    ready_with(Kind::ColdBoot, cold_values(x), Outcome::Cold)
 }
 
 // Boots an image cold: opens the boot and makes all its stores. Refused, it stores nothing.
-pub fn boot_cold(image: &mut [u32], digest: &[u8], secret: &[u8]) -> u32
-    ensures { λ r. ⌜ r ≡ bootNumber (openColdBoot (now (image .entry)) (bootOf (now (digest .entry)) (now (secret .entry))) .status) ⌝ }
-    ensures { λ r. ⌜ now (image .exit) ≡ coldBooted (now (image .entry)) (bootOf (now (digest .entry)) (now (secret .entry))) ⌝ }
+pub fn boot_cold(image: &mut [u32], runtime: &[u8], manifest: &[u8], secret: &[u8]) -> u32
+    ensures { λ r. ⌜ r ≡ bootNumber (openColdBoot (now (image .entry)) (bootOf (now (runtime .entry)) (now (manifest .entry)) (now (secret .entry))) .status) ⌝ }
+    ensures { λ r. ⌜ now (image .exit) ≡ coldBooted (now (image .entry)) (bootOf (now (runtime .entry)) (now (manifest .entry)) (now (secret .entry))) ⌝ }
 {
-    let booted = open_cold_boot(image, digest, secret);
+    let booted = open_cold_boot(image, runtime, manifest, secret);
     let status = booted.status;
     let BootStatus::Ready(_) = status else {
         return boot_number(status);

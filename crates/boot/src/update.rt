@@ -12,6 +12,9 @@ ghost use Rattle.tree.specs.Nodes.{treeIn, cumulativeIn};
 ghost use Rattle.opening.specs.Tasks.{bootOf, update};
 ghost use Rattle.opening.specs.Works.{workAt, updateValues};
 ghost use Rattle.opening.specs.Openings.{bootNumber, outcomeIn, rootMatches, intact, openUpdateBoot};
+use crate::inputs::Inputs;
+use crate::inputs::extend_by_boot;
+use crate::inputs::inputs_of;
 use crate::inputs::inputs_ok;
 use crate::ready::ready_bare;
 use crate::ready::ready_with;
@@ -36,7 +39,6 @@ use packing::bytes_in;
 use packing::word;
 use sha384::digest::extend;
 use slices::little_endian::pack;
-use slices::strings::bytes_of;
 use table::Kind;
 use tree::formed::well_formed;
 use tree::index::root_index;
@@ -81,17 +83,17 @@ fn root_row(image: &[u32], root: usize, journey: [u8; 48]) -> [u32; NODE_WORDS]
 }
 
 // The words that an update will store.
-fn update_values(image: &[u32], root: usize, digest: &[u8], secret: &[u8]) -> Values
-    requires { ⌜ (length (now digest) ≡ 48) × (root ≤ nodeCount) × (root ≡ rootIn nodeCount (treeIn (now image))) ⌝ }
-    ensures { λ r. ⌜ r ≡ updateValues (bootOf (now (digest .entry)) (now (secret .entry))) (now (image .entry)) ⌝ }
+fn update_values(image: &[u32], root: usize, x: Inputs) -> Values
+    requires { ⌜ (root ≤ nodeCount) × (root ≡ rootIn nodeCount (treeIn (now image))) ⌝ }
+    ensures { λ r. ⌜ r ≡ updateValues (bootOf (x .runtime) (x .manifest) (x .secret)) (now (image .entry)) ⌝ }
 {
-    let d = bytes_of(digest, 0);
-    let current = extend([0u8; 48], d);
-    let journey = extend(bytes_in(image, PCR3_AT), d);
+    let current = extend_by_boot([0u8; 48], x);
+    let journey = extend_by_boot(bytes_in(image, PCR3_AT), x);
     let register = pack(&current, 0);
     let words = pack(&journey, 0);
     let node = root_row(image, root, journey);
-    let kept = pack(secret, 0);
+    let secret = x.secret;
+    let kept = pack(&secret, 0);
     Values {
         register,
         journey: words,
@@ -101,25 +103,30 @@ fn update_values(image: &[u32], root: usize, digest: &[u8], secret: &[u8]) -> Va
 }
 
 // An update, by ROM's verdict.
-fn updated(image: &[u32], digest: &[u8], secret: &[u8]) -> Booted
-    requires { ⌜ length (now digest) ≡ 48 ⌝ }
-    ensures { λ r. ⌜ r ≡ record { work = workAt (now (image .entry)) (update (bootOf (now (digest .entry)) (now (secret .entry)))) []; status = BootStatus.Ready Outcome.Updated } ⌝ }
+fn updated(image: &[u32], x: Inputs) -> Booted
+    ensures { λ r. ⌜ r ≡ record { work = workAt (now (image .entry)) (update (bootOf (x .runtime) (x .manifest) (x .secret))) []; status = BootStatus.Ready Outcome.Updated } ⌝ }
 {
     let root = root_index(image);
-    let values = update_values(image, root, digest, secret);
+    let values = update_values(image, root, x);
     ready_with(Kind::Update(root), values, Outcome::Updated)
 }
 
 // Opens an update boot: it reads the image and changes nothing.
-pub fn open_update_boot(image: &[u32], digest: &[u8], secret: &[u8], verdict: bool) -> Booted
-    ensures { λ r. ⌜ r ≡ openUpdateBoot (now (image .entry)) (bootOf (now (digest .entry)) (now (secret .entry))) verdict ⌝ }
-    ensures { λ r. ⌜ bootNumber (r .status) ≡ bootNumber (openUpdateBoot (now (image .entry)) (bootOf (now (digest .entry)) (now (secret .entry))) verdict .status) ⌝ }
-    ensures { λ r. ⌜ outcomeIn (r .status) ≡ outcomeIn (openUpdateBoot (now (image .entry)) (bootOf (now (digest .entry)) (now (secret .entry))) verdict .status) ⌝ }
+pub fn open_update_boot(
+    image: &[u32],
+    runtime: &[u8],
+    manifest: &[u8],
+    secret: &[u8],
+    verdict: bool,
+) -> Booted
+    ensures { λ r. ⌜ r ≡ openUpdateBoot (now (image .entry)) (bootOf (now (runtime .entry)) (now (manifest .entry)) (now (secret .entry))) verdict ⌝ }
+    ensures { λ r. ⌜ bootNumber (r .status) ≡ bootNumber (openUpdateBoot (now (image .entry)) (bootOf (now (runtime .entry)) (now (manifest .entry)) (now (secret .entry))) verdict .status) ⌝ }
+    ensures { λ r. ⌜ outcomeIn (r .status) ≡ outcomeIn (openUpdateBoot (now (image .entry)) (bootOf (now (runtime .entry)) (now (manifest .entry)) (now (secret .entry))) verdict .status) ⌝ }
 {
     if image.len() != IMAGE_WORDS {
         return boot_refused(WRONG_IMAGE);
     }
-    if !inputs_ok(digest, secret) {
+    if !inputs_ok(runtime, manifest, secret) {
         return boot_refused(WRONG_INPUTS);
     }
     if !is_intact(image) {
@@ -128,5 +135,5 @@ pub fn open_update_boot(image: &[u32], digest: &[u8], secret: &[u8], verdict: bo
     if !verdict {
         return ready_bare(Kind::Nothing, Outcome::Kept);
     }
-    updated(image, digest, secret)
+    updated(image, inputs_of(runtime, manifest, secret))
 }

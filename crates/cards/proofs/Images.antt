@@ -11,6 +11,7 @@ use mathlib.Core.Option.{Option, none, some}
 use lib.ListN.{getD, set, replicate, length-replicate, length-set}
 use lib.Seq.{getD-set-same, getD-set-other}
 use Rattle.layout.specs.Sizes.{nodeCount}
+use Rattle.layout.specs.Words.{zeros}
 use Rattle.layout.proofs.Blocks.{getD-kept}
 use Rattle.layout.proofs.Bounded.{count-first, first-lowest}
 use Rattle.tree.specs.Tree.{Place, Tree, defaultWords, nodeWith, lowestFree, wellFormed}
@@ -18,14 +19,15 @@ use Rattle.tree.specs.Nodes.{word, treeIn}
 use Rattle.nodes.specs.Record.{Node, retiredHandle, withHandle, placeOf, treeOf}
 use Rattle.nodes.proofs.Rows.{row-first}
 use Rattle.tree.proofs.WellFormed.{free-there}
-use Rattle.opening.specs.Values.{measured, childNode, rootNode}
-use Rattle.opening.specs.Tasks.{BootInputs, bootOf, Measurement, stash, coldBoot}
+use Rattle.opening.specs.Values.{extendedByBoot, childNode, rootNode}
+use Rattle.opening.specs.Tasks.{BootInputs, Measurement, stash, coldBoot}
 use Rattle.opening.specs.Openings.{bootNumber, openColdBoot, coldBooted}
 use Rattle.history.specs.Ledger.{Chain, Contents, treeAt, changed, nextChain, next, blank, stateOf}
 use Rattle.history.proofs.Encoded.{Shape, encodes, tree-read, length-image, mark-read, attestation-read}
 use Rattle.history.proofs.Good.{Good, good-cold, good-stash, holder-node, formed-good}
 use Rattle.history.proofs.Demand.{cold-image}
 use Rattle.cards.specs.Cards.{Serving, usedNodes}
+use Rattle.respond.specs.Program.{programBoot}
 use Rattle.cards.specs.Images.{zeroMeasurement, firstBoot, historyOf, imageWith, ownParent, looped, ownParentImage}
 
 -- ---- after a cold boot
@@ -35,7 +37,7 @@ unfolding nextChain word
 root-word before x e =
     ap (λ (l : List ℕ). getD l 400 0) (cold-image before x e)
     ∙ encodes 1 1 s (good-cold (blank .chain) x .shape) 0 0 (omega (arith, good-cold (blank .chain) x .shape .nodes)) (omega arith)
-    ∙ row-first (rootNode (measured (x .digest)))
+    ∙ row-first (rootNode (extendedByBoot (zeros 48) x))
   where
     s : Contents
     s = next blank (coldBoot x)
@@ -147,12 +149,12 @@ cold-filled n r l =
 
 cold-used : (x : BootInputs) → Used (next blank (coldBoot x)) 1
 unfolding nextChain
-cold-used x = record { good = good-cold (blank .chain) x; filled = cold-filled nodeCount (rootNode (measured (x .digest))) (omega arith) }
+cold-used x = record { good = good-cold (blank .chain) x; filled = cold-filled nodeCount (rootNode (extendedByBoot (zeros 48) x)) (omega arith) }
 
 history-used : (k : ℕ) → 0 < k → k ≤ nodeCount → Used (stateOf (historyOf k)) k
 unfolding stateOf
 history-used k z l =
-    stashes zeroMeasurement (k - 1) (next blank firstBoot) 1 k (cold-used (bootOf (replicate 48 0x11) (replicate 48 0x22))) (omega arith) l
+    stashes zeroMeasurement (k - 1) (next blank firstBoot) 1 k (cold-used programBoot) (omega arith) l
 
 module _ (k : ℕ) (some-node : 0 < k) (few : k ≤ nodeCount) where
   abbrev x : Contents

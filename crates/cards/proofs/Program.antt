@@ -2,7 +2,7 @@
 use mathlib.Core.Path.{_≡_, ap, _∙_}
 use Prim.Native.Nat.{ℕ}
 use mathlib.Core.List.{List, [], _∷_, _++_}
-use lib.ListN.{length, getD, replicate}
+use lib.ListN.{length, getD}
 use borrow.Author.Tests.{eq-eqb}
 use Rattle.layout.specs.Sizes.{imageWords, markAt}
 use Rattle.layout.specs.Words.{bytes4, zeros}
@@ -10,7 +10,7 @@ use Rattle.layout.specs.Below.{allBelow}
 use Rattle.layout.proofs.Tab.{length-zeros}
 use Rattle.message.specs.Checksum.{checksumOf}
 use Rattle.making.specs.Made.{workWith}
-use Rattle.opening.specs.Tasks.{BootInputs, bootOf, coldBoot, disableCommand, accepted}
+use Rattle.opening.specs.Tasks.{coldBoot, disableCommand, accepted}
 use Rattle.opening.specs.Rules.{inputsOk, wrongChecksum, answerOf}
 use Rattle.opening.specs.Works.{workAt}
 use Rattle.opening.specs.Openings.{openedOf, viewIn, bootNumber, openRequest, openColdBoot}
@@ -18,26 +18,23 @@ use Rattle.history.specs.Ledger.{Contents, next, blank, imageOf}
 use Rattle.history.proofs.Encoded.{length-image, mark-read}
 use Rattle.history.proofs.Good.{good-cold}
 use Rattle.history.proofs.Demand.{cold-image}
-use Rattle.respond.specs.Program.{coldImage, requestIn, written, outputOf, programOutput}
-
-abbrev inputs : BootInputs
-inputs = bootOf (replicate 48 0x11) (replicate 48 0x22)
+use Rattle.respond.specs.Program.{programBoot, coldImage, requestIn, written, outputOf, programOutput}
 
 -- the program's cold boot is accepted
-boot-accepted : bootNumber (openColdBoot (zeros imageWords) inputs .status) ≡ 0
+boot-accepted : bootNumber (openColdBoot (zeros imageWords) programBoot .status) ≡ 0
 unfolding openColdBoot inputsOk allBelow
 boot-accepted = rw (eq-eqb (length (zeros imageWords)) imageWords (length-zeros imageWords))
 
 -- so its image is the book's
 abbrev booted : Contents
-booted = next blank (coldBoot inputs)
+booted = next blank (coldBoot programBoot)
 
 image-is : coldImage ≡ imageOf 1 1 booted
 unfolding coldImage
-image-is = cold-image (zeros imageWords) inputs boot-accepted
+image-is = cold-image (zeros imageWords) programBoot boot-accepted
 
 size : length coldImage ≡ imageWords
-size = ap length image-is ∙ length-image 1 1 booted (good-cold (blank .chain) inputs .shape)
+size = ap length image-is ∙ length-image 1 1 booted (good-cold (blank .chain) programBoot .shape)
 
 done : getD coldImage markAt 0 ≡ 1
 done = ap (λ (l : List ℕ). getD l markAt 0) image-is ∙ mark-read 1 1 booted

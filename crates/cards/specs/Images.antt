@@ -7,12 +7,13 @@ use lib.ListN.{set, replicate}
 use Rattle.layout.specs.Words.{bytes4, zeros}
 use Rattle.nodes.specs.Record.{Node}
 use Rattle.opening.specs.Values.{childNode}
-use Rattle.opening.specs.Tasks.{Request, requestOf, bootOf, Measurement, Task, stash, coldBoot}
+use Rattle.opening.specs.Tasks.{Request, requestOf, Measurement, Task, stash, coldBoot}
 use Rattle.history.specs.Ledger.{Contents, stateOf, imageOf}
+use Rattle.respond.specs.Program.{programBoot}
 
 -- a cold boot with the inputs of document 01's program
 abbrev pub firstBoot : Task
-firstBoot = coldBoot (bootOf (replicate 48 0x11) (replicate 48 0x22))
+firstBoot = coldBoot programBoot
 
 -- the boot, then stashes of zero bytes: k nodes are used, one by the boot and one by each stash
 abbrev pub zeroMeasurement : Measurement

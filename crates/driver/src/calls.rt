@@ -17,21 +17,25 @@ fn act(given: Operation, input: &[u8], image: &mut [u32], hand: InHand, buffer: 
     requires { ⌜ Whole (length (now input)) given ⌝ }
 {
     let first = given.first;
-    let middle = given.middle;
+    let first_end = given.first_end;
     let second = given.second;
-    let last = given.last;
-    let front = &input[first..middle];
-    let back = &input[second..last];
+    let second_end = given.second_end;
+    let third = given.third;
+    let third_end = given.third_end;
+    let front = &input[first..first_end];
+    let middle = &input[second..second_end];
+    let back = &input[third..third_end];
     make(
         given.kind,
         image,
         hand,
         given.code,
-        back,
+        middle,
         given.caller,
         front,
         given.verdict,
         front,
+        middle,
         back,
         buffer,
     )

@@ -35,17 +35,19 @@ pub const FINISH: u8 = 13;
 pub const SET_COUNT: u8 = 14;
 
 // An operation: the machine's number of its act or one of the above, and where the next one stands.
-// Two byte strings, from `first` to `middle` and from `second` to `last`: a boot's digest and secret, a
-// request's handoff table and bytes, an image's words, a slice. `code` is a request's or the part that is
-// set, `number` the count of stores or the value that is set, `size` that of an answer's buffer, `words`
-// that of the image that is lent.
+// Up to three byte strings, each from its start to its end: a boot's runtime digest, manifest digest and
+// secret, a request's handoff table and bytes, an image's words, a slice. `code` is a request's or the part
+// that is set, `number` the count of stores or the value that is set, `size` that of an answer's buffer,
+// `words` that of the image that is lent.
 pub(crate) struct Operation {
     pub kind: u8,
     pub end: usize,
     pub first: usize,
-    pub middle: usize,
+    pub first_end: usize,
     pub second: usize,
-    pub last: usize,
+    pub second_end: usize,
+    pub third: usize,
+    pub third_end: usize,
     pub code: u32,
     pub caller: u32,
     pub verdict: bool,
@@ -64,9 +66,11 @@ fn bare(kind: u8, at: usize, end: usize) -> Operation
         kind,
         end,
         first: 0,
-        middle: 0,
+        first_end: 0,
         second: 0,
-        last: 0,
+        second_end: 0,
+        third: 0,
+        third_end: 0,
         code: 0,
         caller: 0,
         verdict: false,
@@ -92,37 +96,57 @@ fn with_string(kind: u8, at: usize, count: usize) -> Operation
     let end = first + count;
     let mut read = bare(kind, at, end);
     read.first = first;
-    read.middle = end;
+    read.first_end = end;
     read.second = end;
-    read.last = end;
+    read.second_end = end;
+    read.third = end;
+    read.third_end = end;
     read
 }
 
-// Two byte strings from an index on, each after its length, and `more` bytes behind them.
-fn with_strings(kind: u8, input: &[u8], at: usize, from: usize, more: usize) -> Operation
-    requires { ⌜ (at ≤ from) × (from < 2097152) × (more ≤ 1) ⌝ }
+// Two byte strings from an index on, each after its length.
+fn with_strings(kind: u8, input: &[u8], at: usize, from: usize) -> Operation
+    requires { ⌜ (at ≤ from) × (from < 2097152) ⌝ }
     ensures { λ r. ⌜ Formed at r ⌝ }
+    ensures { λ r. ⌜ r .end < 4194304 ⌝ }
 {
     let first = from + 2;
-    let middle = first + string_length(input, from);
-    let second = middle + 2;
-    let last = second + string_length(input, middle);
-    let end = last + more;
+    let first_end = first + string_length(input, from);
+    let second = first_end + 2;
+    let end = second + string_length(input, first_end);
     let mut read = bare(kind, at, end);
     read.first = first;
-    read.middle = middle;
+    read.first_end = first_end;
     read.second = second;
-    read.last = last;
+    read.second_end = end;
+    read.third = end;
+    read.third_end = end;
     read
 }
 
-// A boot, cold or update: the digest and the secret, and then ROM's verdict where there is one.
+// A third one after its length, and `more` bytes behind it.
+fn with_third(two: Operation, input: &[u8], at: usize, more: usize) -> Operation
+    requires { ⌜ Formed at two × (two .end < 4194304) × (more ≤ 1) ⌝ }
+    ensures { λ r. ⌜ Formed at r ⌝ }
+{
+    let third = two.end + 2;
+    let third_end = third + string_length(input, two.end);
+    let mut read = two;
+    read.end = third_end + more;
+    read.third = third;
+    read.third_end = third_end;
+    read
+}
+
+// A boot, cold or update: runtime digest, manifest digest and secret, and then ROM's verdict where there
+// is one.
 fn boot(kind: u8, input: &[u8], at: usize, more: usize) -> Operation
     requires { ⌜ (at < inputBytes) × (more ≤ 1) ⌝ }
     ensures { λ r. ⌜ Formed at r ⌝ }
 {
-    let mut read = with_strings(kind, input, at, at + 1, more);
-    read.verdict = byte(input, read.last, 0) == 1;
+    let digests = with_strings(kind, input, at, at + 1);
+    let mut read = with_third(digests, input, at, more);
+    read.verdict = byte(input, read.third_end, 0) == 1;
     read
 }
 
@@ -131,7 +155,7 @@ fn request(input: &[u8], at: usize) -> Operation
     requires { ⌜ at < inputBytes ⌝ }
     ensures { λ r. ⌜ Formed at r ⌝ }
 {
-    let mut read = with_strings(REQUEST, input, at, at + 10, 0);
+    let mut read = with_strings(REQUEST, input, at, at + 10);
     read.code = read32(input, at + 1);
     read.caller = read32(input, at + 5);
     read.verdict = byte(input, at, 9) == 1;

@@ -59,10 +59,10 @@ pub(crate) fn digested(given: Operation, input: &[u8], state: Running) -> Digest
 {
     let kind = given.kind;
     let first = given.first;
-    let middle = given.middle;
+    let first_end = given.first_end;
     match kind {
         BEGIN => silent(running::begin()),
-        FEED => feed(state, &input[first..middle]),
+        FEED => feed(state, &input[first..first_end]),
         FINISH => finish(state),
         SET_COUNT => silent(with_count(state, given.code, given.number as u64)),
         _ => silent(state),

@@ -46,7 +46,7 @@ ends-same m b x = λ i. wasAccepted (x .result i) && ended-same (x .related) i
 -- ---- concrete inputs: document 01's program
 
 pub inputs : BootInputs
-inputs = bootOf (replicate 48 0x11) (replicate 48 0x22)
+inputs = bootOf (replicate 48 0x11) (replicate 48 0x33) (replicate 48 0x22)
 
 cold-opens : (before : List ℕ) → length before ≡ imageWords → bootNumber (openColdBoot before inputs .status) ≡ 0
 unfolding openColdBoot inputsOk allBelow inputs

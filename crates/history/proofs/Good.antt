@@ -9,7 +9,7 @@ use mathlib.Core.Bool.{true, true≢false}
 use mathlib.Core.List.{List, []}
 use mathlib.Core.Option.{Option, none, some, Option·none-ne-some}
 use borrow.Author.Tests.{eq-eqb}
-use lib.Dec.{eqb}
+use lib.Dec.{eqb, lit<}
 use lib.Seq.{getD-set-same, getD-set-other}
 use lib.ListN.{length, getD, set, replicate, length-set, length-replicate, getD-replicate, List·getD-eq-default}
 use Rattle.layout.specs.Sizes.{nodeCount, registerCount, registerWords, registerAt, currentAt, currentRegister, journeyRegister, stashRegister}
@@ -19,7 +19,7 @@ use Rattle.layout.proofs.Bounded.{all-below}
 use Rattle.layout.proofs.Packing.{getD-part, bytes-words}
 use Rattle.layout.proofs.Tab.{length-zeros}
 use Rattle.sha384.specs.Entries.{extended}
-use Rattle.sha384.proofs.Sizes.{Bytes, length-extended, bytes-extended}
+use Rattle.sha384.proofs.Sizes.{Bytes, Measure, measure-extended, measure-each}
 use Rattle.tree.specs.Nodes.{word, treeIn, cumulativeIn}
 use Rattle.tree.specs.Tree.{Place, Tree, defaultWords, sameHandle, isRoot, rootOk, wellFormed, rootIn, nodeWith, lowestFree}
 use Rattle.nodes.specs.Record.{Node, defaultHandle, retiredHandle, handleRow, withHandle, placeOf, treeOf}
@@ -27,7 +27,7 @@ use Rattle.tree.proofs.Ways.{leads-root}
 use Rattle.tree.proofs.Rooted.{placed, placed-same, placed-other, root-used}
 use Rattle.nodes.proofs.Rows.{default-row, retired-row}
 use Rattle.tree.proofs.WellFormed.{Formed, same-refl, rehandled, stashed, formed-true, formed-stashed, top-found, holder-found, free-there}
-use Rattle.opening.specs.Values.{measured, childNode, rootNode}
+use Rattle.opening.specs.Values.{extendedByBoot, childNode, rootNode}
 use Rattle.opening.specs.Tasks.{BootInputs, Measurement, stash, update, coldBoot}
 use Rattle.opening.specs.Openings.{rootMatches}
 use Rattle.history.specs.Ledger.{Chain, Contents, treeAt, changed, renewed, nextChain, imageOf}
@@ -40,33 +40,28 @@ currentOf (some n) = n .current
 
 -- ---- measurements
 
--- 48 bytes
-abbrev pub Measure : List ℕ → Type 0
-Measure b = (length b ≡ 48) × Bytes b
-
-measure-extended : (b d : List ℕ) → Measure (extended b d)
-measure-extended b d = (length-extended b d, bytes-extended b d)
-
 bytes-zeros : (n : ℕ) → Bytes (zeros n)
 unfolding zeros
 bytes-zeros zero i = omega arith
 bytes-zeros (suc n) zero = omega arith
 bytes-zeros (suc n) (suc i) = bytes-zeros n i
 
+measure-zeros : Measure (zeros 48)
+measure-zeros = (length-zeros 48, bytes-zeros 48)
+
 -- n registers of 48 bytes
 abbrev Measures : ℕ → List (List ℕ) → Type 0
 Measures n l = (length l ≡ n) × ((i : ℕ) → i < n → Measure (getD l i []))
 
 measures-zero : (n : ℕ) → Measures n (replicate n (zeros 48))
-measures-zero n =
-    (length-replicate n (zeros 48), λ i l. rw (getD-replicate n i (zeros 48) [] l) (length-zeros 48, bytes-zeros 48))
+measures-zero n = (length-replicate n (zeros 48), λ i l. rw (getD-replicate n i (zeros 48) [] l) measure-zeros)
 
-measures-set : (n : ℕ) (l : List (List ℕ)) (k : ℕ) (b d : List ℕ) → Measures n l → Measures n (set l k (extended b d))
-measures-set n l k b d h = (
-  length-set l k (extended b d) ∙ h .0,
+measures-set : (n : ℕ) (l : List (List ℕ)) (k : ℕ) (v : List ℕ) → Measure v → Measures n l → Measures n (set l k v)
+measures-set n l k v m h = (
+  length-set l k v ∙ h .0,
   λ i c. elim (ℕ-discrete i k) [
-    | yes z ↦ rw (z, getD-set-same l k (extended b d) [] (omega (arith, h .0))) (measure-extended b d)
-    | no z ↦ rw (getD-set-other l k i (extended b d) [] z) (h .1 i c)
+    | yes z ↦ rw (z, getD-set-same l k v [] (omega (arith, h .0))) m
+    | no z ↦ rw (getD-set-other l k i v [] z) (h .1 i c)
   ],
 )
 
@@ -201,8 +196,8 @@ good-cold y b =
     record {
       shape =
           shape-of (nextChain y (coldBoot b))
-          (measures-set registerCount (set (replicate registerCount (zeros 48)) currentRegister z) journeyRegister (zeros 48) (b .digest)
-          (measures-set registerCount (replicate registerCount (zeros 48)) currentRegister (zeros 48) (b .digest) (measures-zero registerCount)))
+          (measures-set registerCount (set (replicate registerCount (zeros 48)) currentRegister z) journeyRegister z (measure-each _ _ measure-zeros)
+          (measures-set registerCount (replicate registerCount (zeros 48)) currentRegister z (measure-each _ _ measure-zeros) (measures-zero registerCount)))
           (length-cold nodeCount (omega arith) z);
       top = 0;
       holder = 0;
@@ -217,7 +212,7 @@ good-cold y b =
     }
   where
     z : List ℕ
-    z = measured (b .digest)
+    z = extendedByBoot (zeros 48) b
 
 -- ---- root and holder, where the searches find them
 
@@ -314,7 +309,8 @@ module _ (x : Chain) (m : Measurement) (g : Good x) (room : lowestFree nodeCount
       record {
         shape =
             shape-of (nextChain x (stash m))
-            (measures-set registerCount (x .registers) stashRegister (getD (x .registers) stashRegister []) (m .digest) (measures-of x (g .shape)))
+            (measures-set registerCount (x .registers) stashRegister (extended (getD (x .registers) stashRegister []) (m .digest))
+            (measure-extended (getD (x .registers) stashRegister []) (m .digest)) (measures-of x (g .shape)))
             (length-set (set (x .nodes) k (some child)) h old ∙ length-set (x .nodes) k (some child) ∙ g .shape .nodes);
         top = g .top;
         holder = k;
@@ -338,9 +334,9 @@ good-update x b g =
     record {
       shape =
           shape-of (nextChain x (update b))
-          (measures-set registerCount (set (x .registers) currentRegister (measured (b .digest))) journeyRegister (getD (x .registers) journeyRegister [])
-          (b .digest)
-          (measures-set registerCount (x .registers) currentRegister (zeros 48) (b .digest) (measures-of x (g .shape))))
+          (measures-set registerCount (set (x .registers) currentRegister c) journeyRegister j
+          (measure-each _ _ (measures-of x (g .shape) .1 journeyRegister (lit< tt)))
+          (measures-set registerCount (x .registers) currentRegister c (measure-each _ _ measure-zeros) (measures-of x (g .shape))))
           (length-set (x .nodes) r new ∙ g .shape .nodes);
       top = g .top;
       holder = g .holder;
@@ -348,7 +344,7 @@ good-update x b g =
       journey =
           ap (λ (i : ℕ). currentOf (getD (set (x .nodes) r new) i none)) (sym (root-is x g))
           ∙ ap currentOf (getD-set-same (x .nodes) r new none (omega (arith, root-below x g, g .shape .nodes)) ∙ ap (changed (renewed j)) (root-node x g .1))
-          ∙ sym (getD-set-same (set (x .registers) currentRegister (measured (b .digest))) journeyRegister j []
+          ∙ sym (getD-set-same (set (x .registers) currentRegister c) journeyRegister j []
           (rw length-set (omega (arith, g .shape .registers))));
       cumulatives =
           cumulatives-set (x .nodes) r new (g .cumulatives)
@@ -358,8 +354,11 @@ good-update x b g =
     r : ℕ
     r = rootIn nodeCount (treeAt x)
 
+    c : List ℕ
+    c = extendedByBoot (zeros 48) b
+
     j : List ℕ
-    j = extended (getD (x .registers) journeyRegister []) (b .digest)
+    j = extendedByBoot (getD (x .registers) journeyRegister []) b
 
     new : Option Node
     new = changed (renewed j) (getD (x .nodes) r none)

@@ -22,7 +22,7 @@ use Rattle.work.specs.Entries.{runsOf}
 use Rattle.making.specs.Made.{workWith}
 use Rattle.table.specs.declared.Put.{Put}
 use Rattle.work.proofs.Plans.{apply, storesIn, EveryRun, every-stores, every-at, plan, length-plan, run-one, run-zeros, run-fill, run-copy, run-part}
-use Rattle.opening.specs.Values.{measured, childNode, rootNode}
+use Rattle.opening.specs.Values.{extendedByBoot, childNode, rootNode}
 use Rattle.opening.specs.Tasks.{BootInputs, Measurement, Task, disableCommand, disablingBoot, stash, update, coldBoot}
 use Rattle.opening.specs.Works.{factsOf, workAt}
 use Rattle.history.specs.Ledger.{Chain, Contents, treeAt, changed, renewed, nextChain, next, registerRows, nodeRows, imageOf}
@@ -276,13 +276,13 @@ module _ (att : ℕ) (x : Contents) (g : Good (x .chain)) (b : BootInputs) where
   rootNow = root-node (x .chain) g .0
 
   journey : List ℕ
-  journey = extended (getD (x .chain .registers) journeyRegister []) (b .digest)
+  journey = extendedByBoot (getD (x .chain .registers) journeyRegister []) b
 
   cumulative : List ℕ
   cumulative = extended (rootNow .cumulative) journey
 
   updateRow : List Run
-  updateRow = updateRuns root (words48 (measured (b .digest))) (words48 journey) (measurementsRow journey cumulative) (words48 (b .secret))
+  updateRow = updateRuns root (words48 (extendedByBoot (zeros 48) b)) (words48 journey) (measurementsRow journey cumulative) (words48 (b .secret))
 
   update-plan : planAt (imageOf 1 att x) (update b) ≡ storesIn updateRow
   unfolding planAt plan runsOf workAt workWith updateRow cumulative journey root rootNow
@@ -292,8 +292,8 @@ module _ (att : ℕ) (x : Contents) (g : Good (x .chain)) (b : BootInputs) where
       let c = ap (λ (i : ℕ). bytes48 (cumulativeIn (imageOf 1 att x) i)) t
       ∙ cumulative-read 1 att x g root rootNow (root-node (x .chain) g .1) (root-below (x .chain) g) in
       λ i. storesIn
-      (updateRuns (t i) (words48 (measured (b .digest))) (words48 (extended (r i) (b .digest)))
-      (measurementsRow (extended (r i) (b .digest)) (extended (c i) (extended (r i) (b .digest)))) (words48 (b .secret)))
+      (updateRuns (t i) (words48 (extendedByBoot (zeros 48) b)) (words48 (extendedByBoot (r i) b))
+      (measurementsRow (extendedByBoot (r i) b) (extended (c i) (extendedByBoot (r i) b))) (words48 (b .secret)))
 
   -- the prepared words, at the two places
   current-words : (j : ℕ) → j < registerWords → getD (measurementsRow journey cumulative) (currentAt + j) 0 ≡ getD (words48 journey) j 0
@@ -317,7 +317,7 @@ module _ (att : ℕ) (x : Contents) (g : Good (x .chain)) (b : BootInputs) where
   run-update =
       ap (λ (p : List Put). apply p (imageOf 1 att x)) update-plan
       ∙ mark-run 1 att x (drop 1 updateRow) 0
-      ∙ register-run 0 att x (drop 2 updateRow) (counted (x .chain) g) currentRegister (measured (b .digest)) (lit< tt)
+      ∙ register-run 0 att x (drop 2 updateRow) (counted (x .chain) g) currentRegister (extendedByBoot (zeros 48) b) (lit< tt)
       ∙ register-run 0 att x1 (drop 3 updateRow) c1 journeyRegister journey (lit< tt)
       ∙ secret-run 0 att x2 (drop 4 updateRow) (b .secret)
       ∙ run-part (drop 5 updateRow) (imageOf 0 att x3) (nodeAt root + currentAt) registerWords values currentAt (words48 journey) (length48 journey)
@@ -346,10 +346,10 @@ module _ (att : ℕ) (x : Contents) (g : Good (x .chain)) (b : BootInputs) where
       whole = withCumulative cumulative half
 
       x1 : Contents
-      x1 = withRegister x currentRegister (measured (b .digest))
+      x1 = withRegister x currentRegister (extendedByBoot (zeros 48) b)
 
       c1 : Counted (x1 .chain)
-      c1 = counted-register (x .chain) currentRegister (measured (b .digest)) (counted (x .chain) g)
+      c1 = counted-register (x .chain) currentRegister (extendedByBoot (zeros 48) b) (counted (x .chain) g)
 
       x2 : Contents
       x2 = withRegister x1 journeyRegister journey
@@ -423,10 +423,10 @@ zeros-append m n = replicate-append-replicate m n 0
 
 module _ (y : Contents) (b : BootInputs) where
   m : List ℕ
-  m = words48 (measured (b .digest))
+  m = words48 (extendedByBoot (zeros 48) b)
 
   rootWords : List ℕ
-  rootWords = nodeRow (rootNode (measured (b .digest)))
+  rootWords = nodeRow (rootNode (extendedByBoot (zeros 48) b))
 
   -- the registers past PCR3, and the nodes past the rootWords
   restRegisters : ℕ
@@ -446,7 +446,7 @@ module _ (y : Contents) (b : BootInputs) where
 
   cold-nodes : nodeRows (nextChain (y .chain) (coldBoot b)) ≡ rootWords ++ zeros restNodes
   unfolding nextChain rootWords restNodes
-  cold-nodes = ap (λ (r : List ℕ). nodeRow (rootNode (measured (b .digest))) ++ r) (flat-zeros placeRow none nodeWords refl (nodeCount - 1))
+  cold-nodes = ap (λ (r : List ℕ). nodeRow (rootNode (extendedByBoot (zeros 48) b)) ++ r) (flat-zeros placeRow none nodeWords refl (nodeCount - 1))
 
   regroup : (p z w a u v o r c : List ℕ) → p ++ z ++ w ++ a ++ u ++ v ++ o ++ r ++ c ≡ p ++ (z ++ (w ++ (a ++ (u ++ (v ++ o)) ++ (r ++ c))))
   regroup p z w a u v o r c = simp append-assoc
@@ -471,10 +471,10 @@ module _ (y : Contents) (b : BootInputs) where
   unfolding m rootWords restRegisters restNodes cold-words
   cold-reached l =
       past-zeros restNodes
-      (past-copy nodeWords rootWords (length-row (some (rootNode (measured (b .digest)))))
+      (past-copy nodeWords rootWords (length-row (some (rootNode (extendedByBoot (zeros 48) b))))
       (past-zeros restRegisters
-      (past-copy registerWords m (length48 (measured (b .digest)))
-      (past-copy registerWords m (length48 (measured (b .digest)))
+      (past-copy registerWords m (length48 (extendedByBoot (zeros 48) b))
+      (past-copy registerWords m (length48 (extendedByBoot (zeros 48) b))
       (past-zeros (currentRegister * registerWords)
       (past-copy registerWords (words48 (b .secret)) (length48 (b .secret))
       (past-zeros 2 start)))))))

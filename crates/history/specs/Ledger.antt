@@ -13,7 +13,7 @@ use Rattle.sha384.specs.Entries.{extended}
 use Rattle.tree.specs.Tree.{Tree, defaultWords, rootIn, nodeWith, lowestFree}
 use Rattle.nodes.specs.Record.{Node, retiredHandle, placeRow, withHandle, withCurrent, withCumulative, treeOf}
 use Rattle.table.specs.Table.{numberOf}
-use Rattle.opening.specs.Values.{measured, childNode, rootNode}
+use Rattle.opening.specs.Values.{extendedByBoot, childNode, rootNode}
 use Rattle.opening.specs.Tasks.{BootInputs, Task, noStores, keptBoot, disableCommand, disablingBoot, stash, update, coldBoot, Ruling, refused, accepted, View}
 use Rattle.opening.specs.Rules.{commandOf, ruled, requestRules, bootRules, bootRuling, updateTask}
 use Rattle.opening.specs.Works.{factsOf}
@@ -62,15 +62,15 @@ nextChain x (stash m) =
     }
 -- update: PCR2 begins anew, PCR3 goes on, and the root is renewed
 nextChain x (update b) =
-    let journey = extended (getD (x .registers) journeyRegister []) (b .digest) in
+    let journey = extendedByBoot (getD (x .registers) journeyRegister []) b in
     let root = rootIn nodeCount (treeAt x) in
     record {
-      registers = set (set (x .registers) currentRegister (measured (b .digest))) journeyRegister journey;
+      registers = set (set (x .registers) currentRegister (extendedByBoot (zeros 48) b)) journeyRegister journey;
       nodes = set (x .nodes) root (changed (renewed journey) (getD (x .nodes) root none));
     }
 -- cold boot: PCR2 and PCR3 measured from zero, every other register zero; the root is node 0 and the only node
 nextChain x (coldBoot b) =
-    let journey = measured (b .digest) in
+    let journey = extendedByBoot (zeros 48) b in
     record {
       registers = set (set (replicate registerCount (zeros 48)) currentRegister journey) journeyRegister journey;
       nodes = set (replicate nodeCount none) 0 (some (rootNode journey));

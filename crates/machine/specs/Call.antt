@@ -6,7 +6,7 @@ use mathlib.Core.List.{List}
 use mathlib.Core.Option.{Option, none, some}
 use lib.Dec.{eqb}
 use lib.ListN.{take}
-use Rattle.opening.specs.Tasks.{requestOf, bootOf}
+use Rattle.opening.specs.Tasks.{Request, BootInputs}
 use Rattle.opening.specs.Openings.{outcomeNumber}
 use Rattle.history.specs.Calls.{Hand, Machine, Step, request, updateBoot, store, answer, powerCut, Act, openCold, call, Result, refusal, opened, booted, stored, answered, noWork, cutOff}
 use Rattle.machine.specs.declared.InHand.{InHand}
@@ -22,13 +22,13 @@ handOf h = cond (h .present) (some (record { work = h .work; boot = h .boot })) 
 unfoldable pub machineOf : List ℕ → InHand → Machine
 machineOf image h = record { image = image; hand = handOf h }
 
--- an act by its number: 0 a request, 1 an update boot, 2 a store, 3 a cold boot, 4 an answer, any other a power cut
-unfoldable pub actOf : ℕ → ℕ → List ℕ → ℕ → List ℕ → Bool → List ℕ → List ℕ → List ℕ → Act
-actOf op code bytes caller handoff verdict digest secret buffer =
-    cond (eqb op 0) (call (request (requestOf code bytes caller handoff verdict)))
-    (cond (eqb op 1) (call (updateBoot (bootOf digest secret) verdict))
+-- an act by its number: 0 a request, 1 an update boot, 2 a store, 3 a cold boot, 4 an answer, any other a power cut; ROM's verdict stands in the request
+unfoldable pub actOf : ℕ → Request → BootInputs → List ℕ → Act
+actOf op r x buffer =
+    cond (eqb op 0) (call (request r))
+    (cond (eqb op 1) (call (updateBoot x (r .verdict)))
     (cond (eqb op 2) (call store)
-    (cond (eqb op 3) (openCold (bootOf digest secret))
+    (cond (eqb op 3) (openCold x)
     (cond (eqb op 4) (call (answer buffer)) (call powerCut)))))
 
 -- a report beside the work in hand and the buffer: kind and answer are that work's

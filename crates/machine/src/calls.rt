@@ -90,20 +90,30 @@ fn after_boot(hand: InHand, booted: Booted) -> Made
 pub(crate) fn update_boot_call(
     image: &[u32],
     hand: InHand,
-    digest: &[u8],
+    runtime: &[u8],
+    manifest: &[u8],
     secret: &[u8],
     verdict: bool,
 ) -> Made
-    ensures { λ r. ⌜ Makes r (now (image .entry)) (step (machineOf (now (image .entry)) hand) (updateBoot (bootOf (now (digest .entry)) (now (secret .entry))) verdict)) ⌝ }
+    ensures { λ r. ⌜ Makes r (now (image .entry)) (step (machineOf (now (image .entry)) hand) (updateBoot (bootOf (now (runtime .entry)) (now (manifest .entry)) (now (secret .entry))) verdict)) ⌝ }
 {
-    after_boot(hand, open_update_boot(image, digest, secret, verdict))
+    after_boot(
+        hand,
+        open_update_boot(image, runtime, manifest, secret, verdict),
+    )
 }
 
 // Opens a cold boot.
-pub(crate) fn cold_boot_call(image: &[u32], hand: InHand, digest: &[u8], secret: &[u8]) -> Made
-    ensures { λ r. ⌜ Makes r (now (image .entry)) (act (machineOf (now (image .entry)) hand) (openCold (bootOf (now (digest .entry)) (now (secret .entry))))) ⌝ }
+pub(crate) fn cold_boot_call(
+    image: &[u32],
+    hand: InHand,
+    runtime: &[u8],
+    manifest: &[u8],
+    secret: &[u8],
+) -> Made
+    ensures { λ r. ⌜ Makes r (now (image .entry)) (act (machineOf (now (image .entry)) hand) (openCold (bootOf (now (runtime .entry)) (now (manifest .entry)) (now (secret .entry))))) ⌝ }
 {
-    after_boot(hand, open_cold_boot(image, digest, secret))
+    after_boot(hand, open_cold_boot(image, runtime, manifest, secret))
 }
 
 // What a store reports: its refusal's number, or the stores left.

@@ -171,7 +171,8 @@ commandRuling c v r = ruled (commandRules c v r) c r
 
 -- a boot's inputs: 48 bytes each, and the secret not all zero
 unfoldable pub inputsOk : BootInputs → Bool
-inputsOk x = eqb (length (x .digest)) 48 && (eqb (length (x .secret)) 48 && not (allBelow 48 (λ k. eqb (getD (x .secret) k 0) 0)))
+inputsOk x =
+    eqb (length (x .runtime)) 48 && (eqb (length (x .manifest)) 48 && (eqb (length (x .secret)) 48 && not (allBelow 48 (λ k. eqb (getD (x .secret) k 0) 0))))
 
 abbrev pub bootRules : BootInputs → List Rule
 bootRules x = refuses number.wrongInputs (not (inputsOk x)) ∷ []

@@ -15,13 +15,14 @@ pub record Request : Type 0 where
 abbrev pub requestOf : ℕ → List ℕ → ℕ → List ℕ → Bool → Request
 requestOf code bytes caller handoff verdict = record { code = code; bytes = bytes; caller = caller; handoff = handoff; verdict = verdict }
 
--- "Inputs: runtime digest, secret"
+-- a boot's inputs: "runtime digest, secret", and between them the manifest digest (document 02, §2)
 pub record BootInputs : Type 0 where
-  pub digest : List ℕ
+  pub runtime : List ℕ
+  pub manifest : List ℕ
   pub secret : List ℕ
 
-abbrev pub bootOf : List ℕ → List ℕ → BootInputs
-bootOf digest secret = record { digest = digest; secret = secret }
+abbrev pub bootOf : List ℕ → List ℕ → List ℕ → BootInputs
+bootOf runtime manifest secret = record { runtime = runtime; manifest = manifest; secret = secret }
 
 -- what a stash measures: "type 4, digest 48, svn 4", and the caller
 pub record Measurement : Type 0 where

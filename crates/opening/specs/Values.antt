@@ -1,15 +1,19 @@
 -- The values that a boot or a stash makes (document 01, "Stash", "Cold boot"). Measurements are byte strings of 48. Assumes nothing.
 use Prim.Native.Nat.{ℕ}
-use mathlib.Core.List.{List}
+use mathlib.Core.List.{List, [], _∷_}
 use Rattle.layout.specs.Sizes.{rootMark, internalFlag, rootType}
 use Rattle.layout.specs.Words.{zeros}
-use Rattle.sha384.specs.Entries.{extended}
+use Rattle.sha384.specs.Entries.{extended, extendedByEach}
 use Rattle.nodes.specs.Record.{Node, newNode}
-use Rattle.opening.specs.Tasks.{Measurement}
+use Rattle.opening.specs.Tasks.{BootInputs, Measurement}
 
 -- "48 zero bytes extended by" a digest
 abbrev pub measured : List ℕ → List ℕ
 measured d = extended (zeros 48) d
+
+-- a register that a boot extends: by the runtime digest, "and then the manifest digest" (document 02, §2)
+abbrev pub extendedByBoot : List ℕ → BootInputs → List ℕ
+extendedByBoot register x = extendedByEach register (x .runtime ∷ x .manifest ∷ [])
 
 -- a stash's node: below the old holder, no flag, current the digest, type from the request, locality the caller
 abbrev pub childNode : ℕ → Measurement → Node

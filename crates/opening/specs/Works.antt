@@ -14,7 +14,7 @@ use Rattle.table.specs.declared.Kind.{Kind}
 use Rattle.table.specs.declared.Kind.the-variants.{Nothing, Disabling, Stash, Update, ColdBoot}
 use Rattle.work.specs.declared.Work.{Work}
 use Rattle.making.specs.declared.Values.{Values}
-use Rattle.opening.specs.Values.{measured, childNode, rootNode}
+use Rattle.opening.specs.Values.{extendedByBoot, childNode, rootNode}
 use Rattle.opening.specs.Tasks.{BootInputs, Measurement, Task, noStores, keptBoot, disableCommand, disablingBoot, stash, update, coldBoot}
 use Rattle.opening.specs.declared.Outcome.{Outcome}
 use Rattle.opening.specs.declared.Outcome.the-variants.{Cold, Kept, Updated, Disabled}
@@ -38,18 +38,18 @@ stashValues x image =
 -- update: PCR2 measured from zero, PCR3 extended, the new secret, and the root's two measurements from the new PCR3
 abbrev pub updateValues : BootInputs → List ℕ → Values
 updateValues x image =
-    let journey = extended (registerIn image journeyRegister) (x .digest) in
+    let journey = extendedByBoot (registerIn image journeyRegister) x in
     record {
-      register = words48 (measured (x .digest));
+      register = words48 (extendedByBoot (zeros 48) x);
       journey = words48 journey;
       node = measurementsRow journey (extended (bytes48 (cumulativeIn image (rootIn nodeCount (treeIn image)))) journey);
       secret = words48 (x .secret);
     }
 
--- "PCR2 and PCR3 are 48 zero bytes extended by the digest"
+-- cold boot: PCR2 and PCR3 measured from zero, the secret, and the root's node
 abbrev pub coldValues : BootInputs → Values
 coldValues x =
-    let journey = measured (x .digest) in
+    let journey = extendedByBoot (zeros 48) x in
     record { register = words48 journey; journey = words48 journey; node = nodeRow (rootNode journey); secret = words48 (x .secret) }
 
 -- ---- one row for each task

@@ -8,16 +8,20 @@ use lib.ListN.{length, take, drop, replicate}
 use Rattle.layout.specs.Sizes.{imageWords, answerMax}
 use Rattle.layout.specs.Words.{zeros, le32, bytes4}
 use Rattle.work.specs.declared.Work.{Work}
-use Rattle.opening.specs.Tasks.{Request, requestOf, bootOf}
+use Rattle.opening.specs.Tasks.{Request, requestOf, BootInputs, bootOf}
 use Rattle.opening.specs.Openings.{openRequest, statusNumber, coldBooted}
 use Rattle.opening.specs.declared.Status.{Status}
 use Rattle.opening.specs.declared.Status.the-variants as status
 use Rattle.opening.specs.declared.Opened.{Opened}
 use Rattle.respond.specs.declared.Response.{Response}
 
--- the unit: zero words, cold booted with digest bytes 0x11 and secret bytes 0x22, all stores made
+-- runtime digest bytes 0x11, manifest digest bytes 0x33 (document 02, §2), secret bytes 0x22
+abbrev pub programBoot : BootInputs
+programBoot = bootOf (replicate 48 0x11) (replicate 48 0x33) (replicate 48 0x22)
+
+-- the unit: zero words, cold booted, all stores made
 unfoldable pub coldImage : List ℕ
-coldImage = coldBooted (zeros imageWords) (bootOf (replicate 48 0x11) (replicate 48 0x22))
+coldImage = coldBooted (zeros imageWords) programBoot
 
 -- "a code (4 bytes, little endian) and a request", "Fewer than 4 input bytes count as code 0", "caller 0, verdict no, no handoff table". The request is
 -- what follows the first 4 bytes.

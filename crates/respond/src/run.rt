@@ -13,9 +13,10 @@ pub(crate) fn cold_image() -> [u32; IMAGE_WORDS]
     ensures { λ r. ⌜ r ≡ coldImage ⌝ }
 {
     let mut image = [0u32; IMAGE_WORDS];
-    let digest = [0x11u8; 48];
+    let runtime = [0x11u8; 48];
+    let manifest = [0x33u8; 48];
     let secret = [0x22u8; 48];
-    boot_cold(&mut image, &digest, &secret);
+    boot_cold(&mut image, &runtime, &manifest, &secret);
     image
 }
 

@@ -1,4 +1,4 @@
--- A digest is 48 bytes, each below 256; and what the digest entry answers to a message that is not too long. Assumes nothing.
+-- A digest is 48 bytes, each below 256, and so is what is extended by digests; and what the digest entry answers to a message that is not too long. Assumes nothing.
 use mathlib.Core.Path.{_≡_, refl}
 use mathlib.Core.List.{List, [], _∷_, _++_}
 use Prim.Native.Nat.{ℕ, zero, suc, _≤_, _<_}
@@ -6,7 +6,7 @@ use native.Mathlib.Omega.{arith}
 use borrow.Author.Tests.{le-leb}
 use lib.ListN.{length, getD}
 use Rattle.sha384.specs.Sha384.{bytesOf, firstSix, hashOf, sha384}
-use Rattle.sha384.specs.Entries.{longest, digestOf, extended}
+use Rattle.sha384.specs.Entries.{longest, digestOf, extended, extendedByEach}
 
 pub length-sha384 : (m : List ℕ) → length (sha384 m) ≡ 48
 unfolding sha384 firstSix
@@ -47,6 +47,19 @@ bytes-sha384 m =
 pub bytes-extended : (x d : List ℕ) → Bytes (extended x d)
 unfolding extended
 bytes-extended x d = bytes-sha384 (x ++ d)
+
+-- a measurement: 48 bytes
+abbrev pub Measure : List ℕ → Type 0
+Measure x = (length x ≡ 48) × Bytes x
+
+pub measure-extended : (x d : List ℕ) → Measure (extended x d)
+measure-extended x d = (length-extended x d, bytes-extended x d)
+
+-- extended by each of a list, however long, it stays one
+pub measure-each : (x : List ℕ) (ds : List (List ℕ)) → Measure x → Measure (extendedByEach x ds)
+unfolding extendedByEach
+measure-each x [] h = h
+measure-each x (d ∷ ds) h = measure-each (extended x d) ds (measure-extended x d)
 
 -- a message that is not too long gets its digest
 pub digest-of-short : (m : List ℕ) → length m ≤ longest → digestOf m ≡ record { number = 0; bytes = sha384 m }

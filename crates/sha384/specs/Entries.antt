@@ -1,7 +1,7 @@
--- What document 01's digest entry answers, "x extended by d", and the digest from a hash value on. Assumes nothing.
+-- What document 01's digest entry answers, "x extended by d" and by each of a list, and the digest from a hash value on. Assumes nothing.
 use Prim.Native.Nat.{ℕ, _/_, _%_}
 use mathlib.Core.Bool.{cond}
-use mathlib.Core.List.{List, _++_}
+use mathlib.Core.List.{List, _++_, foldl}
 use lib.Dec.{leb}
 use lib.ListN.{length, take, replicate}
 use Rattle.sha_block.specs.Blocks.{hashed, hashValue}
@@ -23,6 +23,10 @@ digestOf m =
 -- "x extended by d" is SHA-384 of the 48 bytes x followed by the 48 bytes d
 unfoldable pub extended : List ℕ → List ℕ → List ℕ
 extended x d = sha384 (x ++ d)
+
+-- x extended by each of a list, the first of the list first
+unfoldable pub extendedByEach : List ℕ → List (List ℕ) → List ℕ
+extendedByEach x ds = foldl extended x ds
 
 -- what ends the padded message of n bytes: the bytes past its whole blocks, which are the first of `last`, and the padding
 abbrev pub endOf : List ℕ → ℕ → List ℕ

@@ -27,28 +27,30 @@ pub extern "C" fn waggleloft_open_request(
 #[no_mangle]
 pub extern "C" fn waggleloft_open_cold_boot(
     image: &[u32],
-    digest: &[u8],
+    runtime: &[u8],
+    manifest: &[u8],
     secret: &[u8],
     work: &mut [u32],
     outcome: &mut u32,
 ) -> u32
-    ensures { λ r. ⌜ BootsAs (now (work .entry)) (now (work .exit)) (now (outcome .entry)) (now (outcome .exit)) r (openColdBoot (now (image .entry)) (bootOf (now (digest .entry)) (now (secret .entry)))) ⌝ }
+    ensures { λ r. ⌜ BootsAs (now (work .entry)) (now (work .exit)) (now (outcome .entry)) (now (outcome .exit)) r (openColdBoot (now (image .entry)) (bootOf (now (runtime .entry)) (now (manifest .entry)) (now (secret .entry)))) ⌝ }
 {
-    let booted = open_cold_boot(image, digest, secret);
+    let booted = open_cold_boot(image, runtime, manifest, secret);
     boot_into(booted, work, outcome)
 }
 
 #[no_mangle]
 pub extern "C" fn waggleloft_open_update_boot(
     image: &[u32],
-    digest: &[u8],
+    runtime: &[u8],
+    manifest: &[u8],
     secret: &[u8],
     verdict: bool,
     work: &mut [u32],
     outcome: &mut u32,
 ) -> u32
-    ensures { λ r. ⌜ BootsAs (now (work .entry)) (now (work .exit)) (now (outcome .entry)) (now (outcome .exit)) r (openUpdateBoot (now (image .entry)) (bootOf (now (digest .entry)) (now (secret .entry))) verdict) ⌝ }
+    ensures { λ r. ⌜ BootsAs (now (work .entry)) (now (work .exit)) (now (outcome .entry)) (now (outcome .exit)) r (openUpdateBoot (now (image .entry)) (bootOf (now (runtime .entry)) (now (manifest .entry)) (now (secret .entry))) verdict) ⌝ }
 {
-    let booted = open_update_boot(image, digest, secret, verdict);
+    let booted = open_update_boot(image, runtime, manifest, secret, verdict);
     boot_into(booted, work, outcome)
 }

@@ -29,9 +29,10 @@ fn print_stores(work: Work) {
 
 fn main() {
     let image = [0u32; IMAGE_WORDS];
-    let digest = [0x11u8; 48];
+    let runtime = [0x11u8; 48];
+    let manifest = [0x33u8; 48];
     let secret = [0x22u8; 48];
-    let booted = open_cold_boot(&image, &digest, &secret);
+    let booted = open_cold_boot(&image, &runtime, &manifest, &secret);
     let status = booted.status;
     let BootStatus::Ready(_) = status else {
         io::write_all(STDERR_FILENO, b"wrong_image: the cold boot is refused\n");

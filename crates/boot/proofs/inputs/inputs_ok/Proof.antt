@@ -1,4 +1,4 @@
--- The three tests, in their order.
+-- The four tests, in their order.
 use Rattle.layout.proofs.Cases.{cases}
 use borrow.Author.Tests.{eq-eqb}
 use lib.ListN.{length}
@@ -15,17 +15,23 @@ returns-2 : tie.Need-returns-2
 unfolding inputsOk
 returns-2 c = search cases
 
+returns-3 : tie.Need-returns-3
+unfolding inputsOk
+returns-3 c = search cases
+
 all-zero-requires : tie.Need-all-zero-requires
 all-zero-requires c κs = search needs
 
-returns-3 : tie.Need-returns-3
+returns-4 : tie.Need-returns-4
 unfolding inputsOk
-returns-3 c =
+returns-4 c =
+    let a = c .before .before .before .before .before .before .before .args in
     rw (
-      eq-eqb (length (c .before .before .before .before .before .args .digest .now)) 48 (c .before .before .if1 .left),
-      eq-eqb (length (c .before .before .before .before .before .args .secret .now)) 48 (c .before .if2 .left),
+      eq-eqb (length (a .runtime .now)) 48 (c .before .before .before .if1 .left),
+      eq-eqb (length (a .manifest .now)) 48 (c .before .before .if2 .left),
+      eq-eqb (length (a .secret .now)) 48 (c .before .if3 .left),
       c .all-zero .ensures,
     )
 
 pub inputs-ok-spec : {M : Type 1} → statement M
-inputs-ok-spec = tie.close (tie.spec returns returns-2 all-zero-requires returns-3)
+inputs-ok-spec = tie.close (tie.spec returns returns-2 returns-3 all-zero-requires returns-4)

@@ -7,7 +7,7 @@ root-index-requires : tie.Need-root-index-requires
 root-index-requires c κs = tt
 
 update-values-requires : tie.Need-update-values-requires
-update-values-requires c κs = (c .before .before .before .before .pre, c .root-index .ensures .1, c .root-index .ensures .0)
+update-values-requires c κs = (c .root-index .ensures .1, c .root-index .ensures .0)
 
 ready-with-requires : tie.Need-ready-with-requires
 ready-with-requires c κs = tt

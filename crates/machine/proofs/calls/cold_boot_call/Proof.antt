@@ -13,7 +13,7 @@ after-boot-requires c κs = search needs
 
 returns : tie.Need-returns
 unfolding step machineOf
-returns c = λ b. rw (← c .before .open-cold-boot .ensures .0) (c .after-boot .ensures (c .before .before .before .before .before .args .image .now) b)
+returns c = λ b. rw (← c .before .open-cold-boot .ensures .0) (c .after-boot .ensures (c .before .before .before .before .before .before .args .image .now) b)
 
 pub cold-boot-call-spec : {M : Type 1} → statement M
 cold-boot-call-spec =

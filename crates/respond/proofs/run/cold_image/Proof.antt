@@ -14,6 +14,9 @@ slice-aggregate-boot-cold-2 c = search needs
 slice-aggregate-boot-cold-3 : tie.Need-slice-aggregate-boot-cold-3
 slice-aggregate-boot-cold-3 c = search needs
 
+slice-aggregate-boot-cold-4 : tie.Need-slice-aggregate-boot-cold-4
+slice-aggregate-boot-cold-4 c = search needs
+
 boot-cold-requires : tie.Need-boot-cold-requires
 boot-cold-requires c κs = tt
 
@@ -28,5 +31,6 @@ cold-image-spec =
     slice-aggregate-boot-cold
     slice-aggregate-boot-cold-2
     slice-aggregate-boot-cold-3
+    slice-aggregate-boot-cold-4
     boot-cold-requires
     returns)
