@@ -28,7 +28,7 @@ static void (*measured)(void);
 #define CALL(function) ((__typeof__(&function))measured)
 
 static uint32_t image[WAGGLELOFT_IMAGE_WORDS], work[WAGGLELOFT_WORK_WORDS], outcome;
-static uint8_t digest[48], secret[48], request[196], handoff[2048], buffer[WAGGLELOFT_ANSWER_LONGEST], message[65535];
+static uint8_t runtime[48], manifest[48], secret[48], request[196], handoff[2048], buffer[WAGGLELOFT_ANSWER_LONGEST], message[65535];
 static uint8_t state[WAGGLELOFT_SHA384_STATE_BYTES], whole[WAGGLELOFT_SHA384_BYTES];
 static size_t written;
 
@@ -54,8 +54,8 @@ static size_t touched(void (*function)(void))
     return sizeof stack - clean;
 }
 
-static void cold_boot(void) { CALL(waggleloft_open_cold_boot)(image, WAGGLELOFT_IMAGE_WORDS, digest, 48, secret, 48, work, WAGGLELOFT_WORK_WORDS, &outcome); }
-static void update_boot(void) { CALL(waggleloft_open_update_boot)(image, WAGGLELOFT_IMAGE_WORDS, digest, 48, secret, 48, true, work, WAGGLELOFT_WORK_WORDS, &outcome); }
+static void cold_boot(void) { CALL(waggleloft_open_cold_boot)(image, WAGGLELOFT_IMAGE_WORDS, runtime, 48, manifest, 48, secret, 48, work, WAGGLELOFT_WORK_WORDS, &outcome); }
+static void update_boot(void) { CALL(waggleloft_open_update_boot)(image, WAGGLELOFT_IMAGE_WORDS, runtime, 48, manifest, 48, secret, 48, true, work, WAGGLELOFT_WORK_WORDS, &outcome); }
 static void stash(void) { CALL(waggleloft_open_request)(image, WAGGLELOFT_IMAGE_WORDS, WAGGLELOFT_STASH_MEASUREMENT, request, 60, 1, handoff, 2048, true, work, WAGGLELOFT_WORK_WORDS); }
 static void identity_key(void) { CALL(waggleloft_open_request)(image, WAGGLELOFT_IMAGE_WORDS, WAGGLELOFT_IDENTITY_KEY, request, 4, 1, handoff, 2048, true, work, WAGGLELOFT_WORK_WORDS); }
 static void store(void) { CALL(waggleloft_store)(work, WAGGLELOFT_WORK_WORDS, image, WAGGLELOFT_IMAGE_WORDS); }
@@ -112,7 +112,8 @@ static bool show_running(void)
 int main(void)
 {
     static const uint32_t marker = 0x54484643;
-    memset(digest, 1, sizeof digest);
+    memset(runtime, 1, sizeof runtime);
+    memset(manifest, 3, sizeof manifest);
     memset(secret, 2, sizeof secret);
     memcpy(handoff, &marker, sizeof marker);
     handoff[4] = 1;

@@ -129,14 +129,16 @@ static size_t argument(int argc, char **argv)
 int main(int argc, char **argv)
 {
     size_t cut = argument(argc, argv);
-    uint8_t runtime[WAGGLELOFT_SHA384_BYTES], program[WAGGLELOFT_SHA384_BYTES], secret[WAGGLELOFT_SHA384_BYTES];
+    uint8_t runtime[WAGGLELOFT_SHA384_BYTES], manifest[WAGGLELOFT_SHA384_BYTES], secret[WAGGLELOFT_SHA384_BYTES];
+    uint8_t program[WAGGLELOFT_SHA384_BYTES];
     uint32_t outcome = WAGGLELOFT_KEPT, number;
     memset(secret, 0x5A, sizeof secret);
     (void)waggleloft_sha384((const uint8_t *)"the runtime", 11, runtime, sizeof runtime);
+    (void)waggleloft_sha384((const uint8_t *)"its manifest", 12, manifest, sizeof manifest);
     (void)waggleloft_sha384((const uint8_t *)"counts hours", 12, program, sizeof program);
 
-    number = waggleloft_open_cold_boot(image, WAGGLELOFT_IMAGE_WORDS, runtime, sizeof runtime, secret, sizeof secret,
-                                       work, WAGGLELOFT_WORK_WORDS, &outcome);
+    number = waggleloft_open_cold_boot(image, WAGGLELOFT_IMAGE_WORDS, runtime, sizeof runtime, manifest, sizeof manifest,
+                                       secret, sizeof secret, work, WAGGLELOFT_WORK_WORDS, &outcome);
     if (number != WAGGLELOFT_OK)
         refused("the cold boot", number);
     printf("Cold boot: %zu stores.\n", run(SIZE_MAX));
@@ -147,8 +149,8 @@ int main(int argc, char **argv)
     take_answer();
     memset(work, 0, sizeof work);
 
-    number = waggleloft_open_update_boot(image, WAGGLELOFT_IMAGE_WORDS, runtime, sizeof runtime, secret, sizeof secret,
-                                         true, work, WAGGLELOFT_WORK_WORDS, &outcome);
+    number = waggleloft_open_update_boot(image, WAGGLELOFT_IMAGE_WORDS, runtime, sizeof runtime, manifest, sizeof manifest,
+                                         secret, sizeof secret, true, work, WAGGLELOFT_WORK_WORDS, &outcome);
     if (number != WAGGLELOFT_OK)
         refused("the update boot", number);
     printf("Restart (update boot): %zu stores.\n", run(SIZE_MAX));

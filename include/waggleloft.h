@@ -9,8 +9,9 @@
  * made for.
  *
  *     uint32_t work[WAGGLELOFT_WORK_WORDS], outcome;
- *     if (waggleloft_open_update_boot(image, WAGGLELOFT_IMAGE_WORDS, digest, 48, secret, 48,
- *                                     true, work, WAGGLELOFT_WORK_WORDS, &outcome) == WAGGLELOFT_OK)
+ *     if (waggleloft_open_update_boot(image, WAGGLELOFT_IMAGE_WORDS, runtime, 48, manifest, 48,
+ *                                     secret, 48, true, work, WAGGLELOFT_WORK_WORDS,
+ *                                     &outcome) == WAGGLELOFT_OK)
  *         while (waggleloft_left(work, WAGGLELOFT_WORK_WORDS) > 0)
  *             waggleloft_store(work, WAGGLELOFT_WORK_WORDS, image, WAGGLELOFT_IMAGE_WORDS);
  *
@@ -67,7 +68,7 @@ extern "C" {
 /* The longest answer, in bytes: a buffer of so many bytes takes every answer. */
 #define WAGGLELOFT_ANSWER_LONGEST 104
 
-/* Bytes of a SHA-384 digest, and of a boot's digest and secret. */
+/* Bytes of a SHA-384 digest, and of each of a boot's inputs: runtime, manifest, secret. */
 #define WAGGLELOFT_SHA384_BYTES 48
 
 /*
@@ -100,7 +101,7 @@ size_t waggleloft_sha384_state_bytes(void);
 #define WAGGLELOFT_UNKNOWN_CODE UINT32_C(3)     /* no command has this code */
 #define WAGGLELOFT_WRONG_LENGTH UINT32_C(4)     /* the request is not as long as its command's */
 #define WAGGLELOFT_WRONG_HANDOFF UINT32_C(5)    /* the handoff table is wrong (identity key) */
-#define WAGGLELOFT_WRONG_INPUT UINT32_C(6)      /* digest or secret not 48 bytes, or secret all zero */
+#define WAGGLELOFT_WRONG_INPUT UINT32_C(6)      /* a boot's input not 48 bytes, or its secret all zero */
 #define WAGGLELOFT_STORES_LEFT UINT32_C(7)      /* no answer before the last store */
 #define WAGGLELOFT_SHORT_BUFFER UINT32_C(8)     /* buffer shorter than the answer, or than 48 bytes */
 #define WAGGLELOFT_NO_STORE_LEFT UINT32_C(9)    /* the work has no store left */
@@ -130,21 +131,31 @@ size_t waggleloft_sha384_state_bytes(void);
 /* ---- Openings ---- */
 
 /*
+ * A boot's inputs, 48 bytes each: runtime, the SHA-384 digest of the code of the
+ * runtime that starts; manifest, that of its firmware manifest; secret, the
+ * device secret. PCR2 and PCR3 are extended by runtime, then by manifest. The
+ * two digests have the same length and type: exchanging them is not refused,
+ * and gives other registers. A digest may have any content, all zero too, and
+ * the two may be equal.
+ */
+
+/*
  * Opens a cold boot on an image with any content: every word of it is stored
- * anew. digest is the SHA-384 digest of the program that boots, secret the
- * device secret, 48 bytes each.
+ * anew.
  *
  * Handed back, the first that applies:
  *   WAGGLELOFT_WRONG_WORK   work_len is not WAGGLELOFT_WORK_WORDS
  *   WAGGLELOFT_WRONG_IMAGE  image_len is not WAGGLELOFT_IMAGE_WORDS
- *   WAGGLELOFT_WRONG_INPUT  digest_len or secret_len is not 48, or the secret is all zero
+ *   WAGGLELOFT_WRONG_INPUT  runtime_len, manifest_len or secret_len is not 48, or the secret is all
+ *                           zero
  *   WAGGLELOFT_OK           otherwise: work is the boot's work, and *outcome is WAGGLELOFT_COLD
  *
  * The image is only read. If the boot is refused, work and *outcome stay as
  * they were: a work in hand may go on.
  */
 uint32_t waggleloft_open_cold_boot(const uint32_t *image, size_t image_len,
-                                   const uint8_t *digest, size_t digest_len,
+                                   const uint8_t *runtime, size_t runtime_len,
+                                   const uint8_t *manifest, size_t manifest_len,
                                    const uint8_t *secret, size_t secret_len,
                                    uint32_t *work, size_t work_len,
                                    uint32_t *outcome);
@@ -152,12 +163,13 @@ uint32_t waggleloft_open_cold_boot(const uint32_t *image, size_t image_len,
 /*
  * Opens an update boot, as every restart with the image kept is one. verdict
  * is the ROM's: whether the new program may count. The numbers are those of a
- * cold boot; *outcome is WAGGLELOFT_KEPT, WAGGLELOFT_UPDATED or
- * WAGGLELOFT_DISABLED, the last if a work was cut, attestation is off or the
- * image is damaged.
+ * cold boot, whatever the boot would come to; *outcome is WAGGLELOFT_KEPT,
+ * WAGGLELOFT_UPDATED or WAGGLELOFT_DISABLED, the last if a work was cut,
+ * attestation is off or the image is damaged.
  */
 uint32_t waggleloft_open_update_boot(const uint32_t *image, size_t image_len,
-                                     const uint8_t *digest, size_t digest_len,
+                                     const uint8_t *runtime, size_t runtime_len,
+                                     const uint8_t *manifest, size_t manifest_len,
                                      const uint8_t *secret, size_t secret_len,
                                      bool verdict, uint32_t *work,
                                      size_t work_len, uint32_t *outcome);

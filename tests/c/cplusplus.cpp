@@ -15,7 +15,7 @@ int main()
 {
     std::array<std::uint32_t, WAGGLELOFT_IMAGE_WORDS> image{};
     std::array<std::uint32_t, WAGGLELOFT_WORK_WORDS> work{};
-    std::array<std::uint8_t, WAGGLELOFT_SHA384_BYTES> digest{}, secret{};
+    std::array<std::uint8_t, WAGGLELOFT_SHA384_BYTES> runtime{}, manifest{}, secret{};
     std::array<std::uint8_t, WAGGLELOFT_ANSWER_LONGEST> answer{};
     const std::array<std::uint8_t, 4> disable{0xDB, 0xFE, 0xFF, 0xFF};
     const std::array<std::uint8_t, 1> none{};
@@ -26,17 +26,19 @@ int main()
     char version[32];
     (void)std::snprintf(version, sizeof version, "%d.%d.%d", WAGGLELOFT_VERSION_MAJOR, WAGGLELOFT_VERSION_MINOR, WAGGLELOFT_VERSION_PATCH);
     check(std::strcmp(WAGGLELOFT_VERSION, version) == 0, "version");
-    check(waggleloft_sha384(none.data(), 0, digest.data(), digest.size()) == WAGGLELOFT_OK && digest[0] == 0x38, "digest of nothing");
+    check(waggleloft_sha384(none.data(), 0, runtime.data(), runtime.size()) == WAGGLELOFT_OK && runtime[0] == 0x38, "digest of nothing");
     std::array<std::uint8_t, WAGGLELOFT_SHA384_STATE_BYTES> state{};
     check(waggleloft_sha384_state_bytes() == state.size() && WAGGLELOFT_SHA384_TOTAL_LONGEST == UINT32_MAX, "sizes of a running digest");
     check(waggleloft_sha384_begin(state.data(), state.size()) == WAGGLELOFT_OK, "begin");
     check(waggleloft_sha384_feed(state.data(), state.size(), none.data(), 0) == WAGGLELOFT_OK, "feed");
     check(waggleloft_sha384_finish(state.data(), state.size(), answer.data(), answer.size()) == WAGGLELOFT_OK &&
-              std::memcmp(answer.data(), digest.data(), digest.size()) == 0, "finish");
+              std::memcmp(answer.data(), runtime.data(), runtime.size()) == 0, "finish");
     check(waggleloft_checksum(WAGGLELOFT_DISABLE_ATTESTATION, none.data(), 0) == UINT32_C(0xFFFFFEDB), "checksum");
+    manifest.fill(0x33);
     secret.fill(0x22);
-    check(waggleloft_open_cold_boot(image.data(), image.size(), digest.data(), digest.size(), secret.data(), secret.size(), work.data(),
-                                    work.size(), &outcome) == WAGGLELOFT_OK && outcome == WAGGLELOFT_COLD, "cold boot");
+    check(waggleloft_open_cold_boot(image.data(), image.size(), runtime.data(), runtime.size(), manifest.data(), manifest.size(),
+                                    secret.data(), secret.size(), work.data(), work.size(), &outcome) == WAGGLELOFT_OK &&
+              outcome == WAGGLELOFT_COLD, "cold boot");
     while (waggleloft_store(work.data(), work.size(), image.data(), image.size()) == WAGGLELOFT_OK)
         stores++;
     check(stores == 1217, "stores of a cold boot");
@@ -44,8 +46,9 @@ int main()
                                   none.data(), 0, false, work.data(), work.size()) == WAGGLELOFT_OK, "disable");
     check(waggleloft_left(work.data(), work.size()) == 15, "stores of a disabling");
     check(waggleloft_answer(work.data(), work.size(), answer.data(), answer.size(), &written) == WAGGLELOFT_STORES_LEFT && written == 99, "no answer yet");
-    check(waggleloft_open_update_boot(image.data(), image.size(), digest.data(), digest.size(), secret.data(), secret.size(), false,
-                                      work.data(), work.size(), &outcome) == WAGGLELOFT_OK && outcome == WAGGLELOFT_KEPT, "update boot");
+    check(waggleloft_open_update_boot(image.data(), image.size(), runtime.data(), runtime.size(), manifest.data(), manifest.size(),
+                                      secret.data(), secret.size(), false, work.data(), work.size(), &outcome) == WAGGLELOFT_OK &&
+              outcome == WAGGLELOFT_KEPT, "update boot");
 
     return conclude();
 }

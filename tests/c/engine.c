@@ -1,10 +1,10 @@
 /*
  * Calls the engine of include/waggleloft.h from C: every cut of a stash, every
- * refusal, works of other lengths, and works with damaged words. What a store
- * has to do is computed here from the table of stores, not asked of the engine.
- * Every buffer is on the heap with its exact length, so that valgrind sees a
- * byte too many. Prints a line for each check that failed and, last,
- * 'N passed, M failed'.
+ * refusal, what a boot measures, works of other lengths, and works with damaged
+ * words. What a store has to do is computed here from the table of stores, not
+ * asked of the engine. Every buffer is on the heap with its exact length, so
+ * that valgrind sees a byte too many. Prints a line for each check that failed
+ * and, last, 'N passed, M failed'.
  */
 #include "waggleloft.h"
 
@@ -43,7 +43,7 @@ static void *lent(size_t n, size_t size)
 /* ---- a unit: its image and the work in hand, with copies to compare with ---- */
 
 static uint32_t *image, *image_before, *work, *work_before;
-static uint8_t *digest, *secret, *request, *buffer, *buffer_before, *none;
+static uint8_t *runtime, *manifest, *secret, *request, *buffer, *buffer_before, *none;
 
 static void remember(void)
 {
@@ -58,12 +58,12 @@ static bool buffer_same(void) { return memcmp(buffer, buffer_before, LONGEST) ==
 
 static uint32_t cold_boot(uint32_t *outcome)
 {
-    return waggleloft_open_cold_boot(image, IMAGE, digest, DIGEST, secret, DIGEST, work, WORK, outcome);
+    return waggleloft_open_cold_boot(image, IMAGE, runtime, DIGEST, manifest, DIGEST, secret, DIGEST, work, WORK, outcome);
 }
 
 static uint32_t update_boot(bool verdict, uint32_t *outcome)
 {
-    return waggleloft_open_update_boot(image, IMAGE, digest, DIGEST, secret, DIGEST, verdict, work, WORK, outcome);
+    return waggleloft_open_update_boot(image, IMAGE, runtime, DIGEST, manifest, DIGEST, secret, DIGEST, verdict, work, WORK, outcome);
 }
 
 static uint32_t ask_with(uint32_t code, size_t len, const uint8_t *handoff, size_t handoff_len, bool verdict)
@@ -297,7 +297,7 @@ static void check_answer_bytes(void)
           "card 4: the answer of a stash while off");
 }
 
-/* Works of other lengths: their own number, and nothing is written. */
+/* Works of other lengths: their own number, before a boot's inputs are looked at, and nothing is written. */
 static void check_work_lengths(void)
 {
     bool all = true;
@@ -317,8 +317,8 @@ static void check_work_lengths(void)
         all = all && waggleloft_left(words, len) == 0;
         all = all && waggleloft_store(words, len, image, IMAGE) == WAGGLELOFT_WRONG_WORK;
         all = all && waggleloft_answer(words, len, buffer, LONGEST, &written) == WAGGLELOFT_WRONG_WORK;
-        all = all && waggleloft_open_cold_boot(image, IMAGE, digest, DIGEST, secret, DIGEST, words, len, &outcome) == WAGGLELOFT_WRONG_WORK;
-        all = all && waggleloft_open_update_boot(image, IMAGE, digest, DIGEST, secret, DIGEST, true, words, len, &outcome) == WAGGLELOFT_WRONG_WORK;
+        all = all && waggleloft_open_cold_boot(image, IMAGE, runtime, DIGEST, none, 0, secret, DIGEST, words, len, &outcome) == WAGGLELOFT_WRONG_WORK;
+        all = all && waggleloft_open_update_boot(image, IMAGE, runtime, DIGEST, none, 0, secret, DIGEST, true, words, len, &outcome) == WAGGLELOFT_WRONG_WORK;
         all = all && waggleloft_open_request(image, IMAGE, WAGGLELOFT_DISABLE_ATTESTATION, request, 4, 7, none, 0, false, words, len) == WAGGLELOFT_WRONG_WORK;
         all = all && image_same() && buffer_same() && outcome == 99 && written == 99 && memcmp(words, before, len * sizeof *words) == 0;
         free(words);
@@ -327,7 +327,7 @@ static void check_work_lengths(void)
     check(all, "works of every other length get 28, and nothing is written");
 }
 
-/* Images of other lengths: 1, and nothing is written. */
+/* Images of other lengths: 1, before a boot's inputs are looked at, and nothing is written. */
 static void check_image_lengths(void)
 {
     static const size_t lengths[] = {0, 1, 2, 399, IMAGE - 1, IMAGE + 1, 2 * IMAGE};
@@ -342,8 +342,8 @@ static void check_image_lengths(void)
         memcpy(before, words, len * sizeof *words);
         remember();
         all = all && waggleloft_store(work, WORK, words, len) == WAGGLELOFT_WRONG_IMAGE;
-        all = all && waggleloft_open_cold_boot(words, len, digest, DIGEST, secret, DIGEST, work, WORK, &outcome) == WAGGLELOFT_WRONG_IMAGE;
-        all = all && waggleloft_open_update_boot(words, len, digest, DIGEST, secret, DIGEST, true, work, WORK, &outcome) == WAGGLELOFT_WRONG_IMAGE;
+        all = all && waggleloft_open_cold_boot(words, len, runtime, DIGEST, none, 0, secret, DIGEST, work, WORK, &outcome) == WAGGLELOFT_WRONG_IMAGE;
+        all = all && waggleloft_open_update_boot(words, len, runtime, DIGEST, none, 0, secret, DIGEST, true, work, WORK, &outcome) == WAGGLELOFT_WRONG_IMAGE;
         all = all && waggleloft_open_request(words, len, WAGGLELOFT_DISABLE_ATTESTATION, request, 4, 7, none, 0, false, work, WORK) == WAGGLELOFT_WRONG_IMAGE;
         all = all && work_same() && outcome == 99 && memcmp(words, before, len * sizeof *words) == 0;
         free(words);
@@ -352,33 +352,187 @@ static void check_image_lengths(void)
     check(all, "images of other lengths get 1, and nothing is written");
 }
 
-/* A boot with a digest and a secret of these lengths, the secret all zero or not. */
-static bool boot_refused(size_t digest_len, size_t secret_len, bool zero)
+/* ---- a boot's inputs ---- */
+
+/* A cold boot and an update boot of each verdict with inputs of these lengths: all get 6, and nothing is written. */
+static bool boots_refused(size_t runtime_len, size_t manifest_len, size_t secret_len, bool zero_secret)
 {
     uint32_t outcome = 99;
-    uint8_t *d = lent(digest_len, 1), *s = lent(secret_len, 1);
-    if (!zero)
+    uint8_t *r = lent(runtime_len, 1), *m = lent(manifest_len, 1), *s = lent(secret_len, 1);
+    if (!zero_secret)
         memset(s, 0x22, secret_len);
     remember();
-    bool holds = waggleloft_open_cold_boot(image, IMAGE, d, digest_len, s, secret_len, work, WORK, &outcome) == WAGGLELOFT_WRONG_INPUT &&
-                 waggleloft_open_update_boot(image, IMAGE, d, digest_len, s, secret_len, true, work, WORK, &outcome) == WAGGLELOFT_WRONG_INPUT;
-    free(d);
+    bool holds = waggleloft_open_cold_boot(image, IMAGE, r, runtime_len, m, manifest_len, s, secret_len, work, WORK, &outcome) == WAGGLELOFT_WRONG_INPUT;
+    for (int verdict = 0; verdict <= 1; verdict++)
+        holds = waggleloft_open_update_boot(image, IMAGE, r, runtime_len, m, manifest_len, s, secret_len, verdict == 1, work, WORK, &outcome) ==
+                    WAGGLELOFT_WRONG_INPUT && holds;
+    free(r);
+    free(m);
     free(s);
     return holds && image_same() && work_same() && outcome == 99;
 }
 
-static void check_refused_boots(void)
+/* Each input of every other length up to 60, 0, 47 and 49 among them, and a secret of zeros. */
+static bool wrong_inputs_refused(void)
 {
-    bool all = true;
-    fresh();
-    all = ask(WAGGLELOFT_STASH_MEASUREMENT, 60) == WAGGLELOFT_OK && run(20) == 20;
+    bool all = boots_refused(DIGEST, DIGEST, DIGEST, true);
     for (size_t len = 0; len <= 60; len++)
         if (len != DIGEST)
-            all = boot_refused(len, DIGEST, false) && boot_refused(DIGEST, len, false) && all;
-    all = boot_refused(DIGEST, DIGEST, true) && all;
-    check(all, "a refused boot leaves the work in hand");
+            all = boots_refused(len, DIGEST, DIGEST, false) && boots_refused(DIGEST, len, DIGEST, false) &&
+                  boots_refused(DIGEST, DIGEST, len, false) && all;
+    return all;
+}
+
+/* Whether an update boot with right inputs would come to that; the work in hand stays. */
+static bool would(bool verdict, uint32_t expected)
+{
+    uint32_t outcome = 99;
+    remember();
+    bool holds = update_boot(verdict, &outcome) == WAGGLELOFT_OK && outcome == expected;
+    memcpy(work, work_before, WORK * sizeof *work);
+    return holds;
+}
+
+static void check_refused_boots(void)
+{
+    fresh();
+    check(would(true, WAGGLELOFT_UPDATED) && would(false, WAGGLELOFT_KEPT) && wrong_inputs_refused(),
+          "wrong inputs get 6 where a boot would update or be kept");
+    check(ask(WAGGLELOFT_STASH_MEASUREMENT, 60) == WAGGLELOFT_OK && run(20) == 20, "a stash is under way");
+    check(would(true, WAGGLELOFT_DISABLED) && would(false, WAGGLELOFT_DISABLED) && wrong_inputs_refused(),
+          "wrong inputs get 6 where a boot would disable, and leave the work in hand");
     check(run(SIZE_MAX) == 33, "which goes on");
 }
+
+/* A cold boot and an update with these digests run to their end. */
+static bool boots_run(const uint8_t *r, const uint8_t *m)
+{
+    uint32_t outcome = 99;
+    return waggleloft_open_cold_boot(image, IMAGE, r, DIGEST, m, DIGEST, secret, DIGEST, work, WORK, &outcome) == WAGGLELOFT_OK &&
+           outcome == WAGGLELOFT_COLD && run(SIZE_MAX) == 1217 &&
+           waggleloft_open_update_boot(image, IMAGE, r, DIGEST, m, DIGEST, secret, DIGEST, true, work, WORK, &outcome) == WAGGLELOFT_OK &&
+           outcome == WAGGLELOFT_UPDATED && run(SIZE_MAX) == 62;
+}
+
+static void check_accepted_boots(void)
+{
+    uint8_t *zeros = lent(DIGEST, 1), *same = lent(DIGEST, 1);
+    memcpy(same, runtime, DIGEST);
+    check(boots_run(runtime, zeros), "a manifest digest of zeros");
+    check(boots_run(zeros, manifest), "a runtime digest of zeros");
+    check(boots_run(zeros, zeros), "both of zeros");
+    check(boots_run(runtime, same), "a manifest digest equal to the runtime's");
+    free(zeros);
+    free(same);
+}
+
+/*
+ * What boots measure, from GNU sha384sum:
+ *
+ *     x48() { printf "%.0s$1" $(seq 48); }
+ *     extend() { printf %b "$(sed 's/../\\x&/g' <<<"$1$2")" | sha384sum | cut -d' ' -f1; }
+ *     zero=$(x48 00)
+ *     COLD_PCR=$(extend "$(extend "$zero" "$(x48 11)")" "$(x48 33)")
+ *     COLD_CUMULATIVE=$(extend "$zero" "$COLD_PCR")
+ *     EXCHANGED_PCR=$(extend "$(extend "$zero" "$(x48 33)")" "$(x48 11)")
+ *     UPDATE_PCR2=$(extend "$(extend "$zero" "$(x48 44)")" "$(x48 55)")
+ *     UPDATE_PCR3=$(extend "$(extend "$COLD_PCR" "$(x48 44)")" "$(x48 55)")
+ *     UPDATE_CUMULATIVE=$(extend "$COLD_CUMULATIVE" "$UPDATE_PCR3")
+ *
+ * and on an image from before the manifest, whose cold boot measured the runtime alone:
+ *
+ *     EARLIER_PCR=$(extend "$zero" "$(x48 11)")
+ *     EARLIER_CUMULATIVE=$(extend "$zero" "$EARLIER_PCR")
+ *     EARLIER_UPDATE_PCR3=$(extend "$(extend "$EARLIER_PCR" "$(x48 44)")" "$(x48 55)")
+ *     EARLIER_UPDATE_CUMULATIVE=$(extend "$EARLIER_CUMULATIVE" "$EARLIER_UPDATE_PCR3")
+ */
+#define COLD_PCR \
+    "7c20878ab486f86b065344e2e6d2382b2cad84955ea5ecfd" \
+    "80b5f91ea9c0cc701431809b9907e1ff24efe3a603c6f486"
+#define COLD_CUMULATIVE \
+    "e9e5bcc8b76d66c67a65087b5bdb351f485f25260f8c3497" \
+    "9ea178005024936e115d5107b73e36e9dcdbf0510bc6927b"
+#define EXCHANGED_PCR \
+    "80394e3ceb0d1fa5fe0f097f5b4757223523dabb8a7e2b0e" \
+    "5ea334528452c0543f30e98138cda5e050ead6bb9e3c5c8b"
+#define UPDATE_PCR2 \
+    "04e178743c81f17d3bacb3f99066cf683ae664bde5e87694" \
+    "0c7891ef4d75660877033a2022e72d5c1bbed68cb96a8092"
+#define UPDATE_PCR3 \
+    "577b7580f2ba97a41cb242a79c2de62cc97aae54a9a4f243" \
+    "755c8eaf5cf57b9e9e22c388e503cffe1b06e061907e221a"
+#define UPDATE_CUMULATIVE \
+    "0e4d7d59faa9d4d50dfba67ac56466f1edec54f8c7aa2dd5" \
+    "1318b221a41e0386b9c870c2ee7478c44752a27ef9ea411b"
+#define EARLIER_PCR \
+    "c7304e0aec48bbbc703c099b425485b7a60e19b6a83630b0" \
+    "fb558ce2f02ec41e4cdf205335b4b613b3537ad83eb62262"
+#define EARLIER_CUMULATIVE \
+    "90e12f80ae975da76b38a0aea79c903914e2d1dc98a6aa06" \
+    "b79e2b97a0bdae3c8130e1795c45d28396a92f234b2c0050"
+#define EARLIER_UPDATE_PCR3 \
+    "cbc44656c3615d68e8a06432dc8aa7430c7465424a7bf33f" \
+    "b90db6e943e383ac943ec33e18eebe648e1ad241a6d48fbe"
+#define EARLIER_UPDATE_CUMULATIVE \
+    "b9d77c2cfe30f50a923689b73b22b622e9ddbaf1d615d4ce" \
+    "43d351fe1e2f0f5db53adbd534e9483e71a9fcd20026c6e0"
+
+/* Whether the twelve words of the image from `at` on are that digest: a word's lowest byte first. */
+static bool holds_digest(size_t at, const char *hex)
+{
+    char found[2 * DIGEST + 1];
+    for (size_t i = 0; i < DIGEST; i++)
+        (void)snprintf(found + 2 * i, 3, "%02x", (unsigned)(image[at + i / 4] >> (8 * (i % 4)) & 0xFFU));
+    return strcmp(found, hex) == 0;
+}
+
+/* Puts a digest there. */
+static void put_digest(size_t at, const char *hex)
+{
+    char byte[3] = {0};
+    memset(image + at, 0, DIGEST);
+    for (size_t i = 0; i < DIGEST; i++) {
+        memcpy(byte, hex + 2 * i, 2);
+        image[at + i / 4] |= (uint32_t)strtoul(byte, NULL, 16) << (8 * (i % 4));
+    }
+}
+
+/* PCR2, PCR3, and current and cumulative of the root, which is node 0. */
+static bool measured(const char *pcr2, const char *pcr3, const char *cumulative)
+{
+    return holds_digest(16 + 12 * 2, pcr2) && holds_digest(16 + 12 * 3, pcr3) && holds_digest(400 + 8, pcr3) &&
+           holds_digest(400 + 20, cumulative);
+}
+
+/* A boot whose digests are 48 times these bytes, run to its end. */
+static bool boot_of(bool cold, uint8_t runtime_byte, uint8_t manifest_byte)
+{
+    uint32_t outcome = 99;
+    memset(runtime, runtime_byte, DIGEST);
+    memset(manifest, manifest_byte, DIGEST);
+    return (cold ? cold_boot(&outcome) : update_boot(true, &outcome)) == WAGGLELOFT_OK && run(SIZE_MAX) == (cold ? 1217 : 62);
+}
+
+static void check_measured_boots(void)
+{
+    fill_words(image, IMAGE);
+    check(boot_of(true, 0x11, 0x33) && measured(COLD_PCR, COLD_PCR, COLD_CUMULATIVE),
+          "a cold boot measures runtime, then manifest");
+    check(boot_of(false, 0x44, 0x55) && measured(UPDATE_PCR2, UPDATE_PCR3, UPDATE_CUMULATIVE),
+          "an update measures runtime, then manifest: PCR2 from zero, PCR3 from its old value");
+    check(boot_of(true, 0x33, 0x11) && holds_digest(16 + 12 * 2, EXCHANGED_PCR) && holds_digest(16 + 12 * 3, EXCHANGED_PCR),
+          "exchanged digests are accepted and give other registers");
+    put_digest(16 + 12 * 2, EARLIER_PCR);
+    put_digest(16 + 12 * 3, EARLIER_PCR);
+    put_digest(400 + 8, EARLIER_PCR);
+    put_digest(400 + 20, EARLIER_CUMULATIVE);
+    check(boot_of(false, 0x44, 0x55) && measured(UPDATE_PCR2, EARLIER_UPDATE_PCR3, EARLIER_UPDATE_CUMULATIVE),
+          "an image from before the manifest goes on with an update");
+    fill_bytes(runtime, DIGEST);
+    fill_bytes(manifest, DIGEST);
+}
+
+/* ---- refused requests and damaged works ---- */
 
 static bool request_refused(uint32_t code, size_t len, uint32_t number)
 {
@@ -467,14 +621,16 @@ int main(void)
     image_before = lent(IMAGE, sizeof *image);
     work = lent(WORK, sizeof *work);
     work_before = lent(WORK, sizeof *work);
-    digest = lent(DIGEST, 1);
+    runtime = lent(DIGEST, 1);
+    manifest = lent(DIGEST, 1);
     secret = lent(DIGEST, 1);
     request = lent(196, 1);
     buffer = lent(LONGEST, 1);
     buffer_before = lent(LONGEST, 1);
     none = lent(0, 1);
     fill_words(work, WORK);
-    fill_bytes(digest, DIGEST);
+    fill_bytes(runtime, DIGEST);
+    fill_bytes(manifest, DIGEST);
     fill_bytes(secret, DIGEST);
     fill_bytes(request, 196);
 
@@ -486,6 +642,8 @@ int main(void)
     check_work_lengths();
     check_image_lengths();
     check_refused_boots();
+    check_accepted_boots();
+    check_measured_boots();
     check_refused_requests();
     check_damaged_works();
 
@@ -493,7 +651,8 @@ int main(void)
     free(image_before);
     free(work);
     free(work_before);
-    free(digest);
+    free(runtime);
+    free(manifest);
     free(secret);
     free(request);
     free(buffer);

@@ -4,7 +4,7 @@
 //! for the length that is passed with it, and a mutable one overlaps no other. The functions ask for
 //! nothing else.
 
-use crate::{Request, SHA384_STATE_BYTES, WORK_WORDS};
+use crate::{BootInputs, Request, SHA384_STATE_BYTES, WORK_WORDS};
 
 extern "C" {
     fn waggleloft_work_words() -> usize;
@@ -13,8 +13,10 @@ extern "C" {
     fn waggleloft_open_cold_boot(
         image: *const u32,
         image_len: usize,
-        digest: *const u8,
-        digest_len: usize,
+        runtime: *const u8,
+        runtime_len: usize,
+        manifest: *const u8,
+        manifest_len: usize,
         secret: *const u8,
         secret_len: usize,
         work: *mut u32,
@@ -24,8 +26,10 @@ extern "C" {
     fn waggleloft_open_update_boot(
         image: *const u32,
         image_len: usize,
-        digest: *const u8,
-        digest_len: usize,
+        runtime: *const u8,
+        runtime_len: usize,
+        manifest: *const u8,
+        manifest_len: usize,
         secret: *const u8,
         secret_len: usize,
         verdict: bool,
@@ -111,25 +115,28 @@ pub fn sha384_state_bytes() -> usize {
 
 pub fn open_cold_boot(
     image: &[u32],
-    digest: &[u8],
-    secret: &[u8],
+    inputs: &BootInputs<'_>,
     work: &mut [u32; WORK_WORDS],
     outcome: &mut u32,
 ) -> u32 {
-    call!(waggleloft_open_cold_boot, read image, read digest, read secret, write work, value outcome)
+    call!(
+        waggleloft_open_cold_boot,
+        read image, read inputs.runtime, read inputs.manifest, read inputs.secret,
+        write work, value outcome
+    )
 }
 
 pub fn open_update_boot(
     image: &[u32],
-    digest: &[u8],
-    secret: &[u8],
+    inputs: &BootInputs<'_>,
     verdict: bool,
     work: &mut [u32; WORK_WORDS],
     outcome: &mut u32,
 ) -> u32 {
     call!(
         waggleloft_open_update_boot,
-        read image, read digest, read secret, value verdict, write work, value outcome
+        read image, read inputs.runtime, read inputs.manifest, read inputs.secret,
+        value verdict, write work, value outcome
     )
 }
 

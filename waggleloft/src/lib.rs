@@ -12,12 +12,16 @@
 //! nothing.
 //!
 //! ```
-//! use waggleloft::{Outcome, Refusal, Work, IMAGE_WORDS};
+//! use waggleloft::{sha384, BootInputs, Outcome, Refusal, Work, IMAGE_WORDS};
 //!
 //! let mut image = [0; IMAGE_WORDS];
 //! let mut work = Work::new();
-//! let digest = waggleloft::sha384(b"the runtime")?;
-//! let outcome = work.open_cold_boot(&image, &digest, &[0x5A; 48])?;
+//! let inputs = BootInputs {
+//!     runtime: &sha384(b"the runtime's code")?,
+//!     manifest: &sha384(b"its firmware manifest")?,
+//!     secret: &[0x5A; 48],
+//! };
+//! let outcome = work.open_cold_boot(&image, &inputs)?;
 //! assert_eq!(outcome, Outcome::Cold);
 //! assert_eq!(work.left(), 1217);
 //! while work.left() > 0 {
@@ -37,7 +41,7 @@ mod work;
 
 pub use refusal::Refusal;
 pub use running::Sha384;
-pub use work::{Outcome, Request, Work};
+pub use work::{BootInputs, Outcome, Request, Work};
 
 /// Words of the unit's image.
 pub const IMAGE_WORDS: usize = 1216;

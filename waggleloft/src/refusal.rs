@@ -16,7 +16,7 @@ pub enum Refusal {
     WrongLength,
     /// 5: the handoff table is wrong (identity key).
     WrongHandoff,
-    /// 6: digest or secret not 48 bytes, or the secret all zero.
+    /// 6: one of [`BootInputs`](crate::BootInputs) not 48 bytes, or the secret all zero.
     WrongInput,
     /// 7: no answer before the last store.
     StoresLeft,
@@ -105,7 +105,7 @@ impl Refusal {
             Self::UnknownCode => "no command has this code",
             Self::WrongLength => "the request has another length than its command's",
             Self::WrongHandoff => "the handoff table is wrong",
-            Self::WrongInput => "digest or secret are not 48 bytes, or the secret is zero",
+            Self::WrongInput => "a digest or the secret is not 48 bytes, or the secret is zero",
             Self::StoresLeft => "stores are left, so there is no answer yet",
             Self::ShortBuffer => "the buffer is too short",
             Self::NoStoreLeft => "no store is left",

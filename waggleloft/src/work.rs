@@ -28,6 +28,32 @@ impl Outcome {
     }
 }
 
+/// What both boots take, 48 bytes each: other lengths, and a secret of zeros, are
+/// [`Refusal::WrongInput`], whatever the boot would come to.
+///
+/// PCR2 and PCR3 are extended by `runtime`, then by `manifest`. The two digests have the same length
+/// and type: exchanging them is not refused, and gives other registers. Each may have any content, all
+/// zero too, and they may be equal.
+#[derive(Clone, Copy)]
+pub struct BootInputs<'a> {
+    /// The SHA-384 digest of the code of the runtime that starts.
+    pub runtime: &'a [u8],
+    /// The SHA-384 digest of its firmware manifest.
+    pub manifest: &'a [u8],
+    /// The device secret.
+    pub secret: &'a [u8],
+}
+
+/// The secret is not shown.
+impl fmt::Debug for BootInputs<'_> {
+    fn fmt(&self, f: &mut fmt::Formatter<'_>) -> fmt::Result {
+        f.debug_struct("BootInputs")
+            .field("runtime", &self.runtime)
+            .field("manifest", &self.manifest)
+            .finish_non_exhaustive()
+    }
+}
+
 /// A mailbox request.
 #[derive(Clone, Copy, Debug, Default, PartialEq, Eq)]
 pub struct Request<'a> {
@@ -74,20 +100,18 @@ impl Work {
         core::hint::black_box(&mut self.words);
     }
 
-    /// Opens a cold boot of the program with that digest, on an image with any content.
+    /// Opens a cold boot, on an image with any content.
     ///
-    /// Refused, and this work stays: [`Refusal::WrongImage`], [`Refusal::WrongInput`].
+    /// Refused, and this work stays: [`Refusal::WrongImage`], then [`Refusal::WrongInput`].
     pub fn open_cold_boot(
         &mut self,
         image: &[u32],
-        digest: &[u8],
-        secret: &[u8],
+        inputs: &BootInputs<'_>,
     ) -> Result<Outcome, Refusal> {
         let mut outcome = 0;
         Refusal::check(archive::open_cold_boot(
             image,
-            digest,
-            secret,
+            inputs,
             &mut self.words,
             &mut outcome,
         ))?;
@@ -96,19 +120,17 @@ impl Work {
 
     /// Opens an update boot, as every restart with the image kept is one; the verdict is the ROM's.
     ///
-    /// Refused, and this work stays: [`Refusal::WrongImage`], [`Refusal::WrongInput`].
+    /// Refused, and this work stays: [`Refusal::WrongImage`], then [`Refusal::WrongInput`].
     pub fn open_update_boot(
         &mut self,
         image: &[u32],
-        digest: &[u8],
-        secret: &[u8],
+        inputs: &BootInputs<'_>,
         verdict: bool,
     ) -> Result<Outcome, Refusal> {
         let mut outcome = 0;
         Refusal::check(archive::open_update_boot(
             image,
-            digest,
-            secret,
+            inputs,
             verdict,
             &mut self.words,
             &mut outcome,

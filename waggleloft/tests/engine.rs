@@ -1,12 +1,15 @@
 //! The engine through the crate: a boot, requests, cuts and refusals.
 
 use waggleloft::{
-    archive_sizes, checksum, code, Outcome, Refusal, Request, Work, ANSWER_LONGEST, IMAGE_WORDS,
-    WORK_WORDS,
+    archive_sizes, checksum, code, BootInputs, Outcome, Refusal, Request, Work, ANSWER_LONGEST,
+    IMAGE_WORDS, WORK_WORDS,
 };
 
-const DIGEST: [u8; 48] = [0x11; 48];
-const SECRET: [u8; 48] = [0x22; 48];
+const INPUTS: BootInputs<'static> = BootInputs {
+    runtime: &[0x11; 48],
+    manifest: &[0x33; 48],
+    secret: &[0x22; 48],
+};
 
 /// Makes at most `most` stores; hands back how many were made.
 fn run(work: &mut Work, image: &mut [u32], most: usize) -> usize {
@@ -21,12 +24,17 @@ fn run(work: &mut Work, image: &mut [u32], most: usize) -> usize {
 fn fresh() -> Vec<u32> {
     let mut image = vec![0xEEEE_EEEE; IMAGE_WORDS];
     let mut work = Work::new();
-    assert_eq!(
-        work.open_cold_boot(&image, &DIGEST, &SECRET),
-        Ok(Outcome::Cold)
-    );
+    assert_eq!(work.open_cold_boot(&image, &INPUTS), Ok(Outcome::Cold));
     assert_eq!(run(&mut work, &mut image, usize::MAX), 1217);
     image
+}
+
+/// The digest in the twelve words of an image from `at` on: a word's lowest byte first.
+fn digest_at(image: &[u32], at: usize) -> String {
+    let bytes = image[at..at + 12]
+        .iter()
+        .flat_map(|word| word.to_le_bytes());
+    bytes.map(|byte| format!("{byte:02x}")).collect()
 }
 
 /// A stash of 48 bytes 7, with its checksum.
@@ -72,7 +80,7 @@ fn every_cut_of_a_stash() {
                 Err(Refusal::StoresLeft)
             }
         );
-        let outcome = work.open_update_boot(&image, &DIGEST, &SECRET, true);
+        let outcome = work.open_update_boot(&image, &INPUTS, true);
         let on = cut == 0 || cut == 53;
         let expected = if on {
             Outcome::Updated
@@ -98,22 +106,114 @@ fn a_refusal_leaves_the_work() {
     let before = work.clone();
     let kept = image.clone();
     assert_eq!(open_stash(&mut work, &image), Err(Refusal::Unfinished));
+    let short = BootInputs {
+        runtime: &[0x11; 47],
+        ..INPUTS
+    };
     assert_eq!(
-        work.open_cold_boot(&image, &DIGEST[1..], &SECRET),
+        work.open_cold_boot(&image, &short),
+        Err(Refusal::WrongInput)
+    );
+    let zero = BootInputs {
+        secret: &[0; 48],
+        ..INPUTS
+    };
+    assert_eq!(
+        work.open_update_boot(&image, &zero, true),
         Err(Refusal::WrongInput)
     );
     assert_eq!(
-        work.open_update_boot(&image, &DIGEST, &[0; 48], true),
-        Err(Refusal::WrongInput)
-    );
-    assert_eq!(
-        work.open_update_boot(&image[1..], &DIGEST, &SECRET, true),
+        work.open_update_boot(&image[1..], &short, true),
         Err(Refusal::WrongImage)
     );
     assert_eq!(work.store(&mut image[1..]), Err(Refusal::WrongImage));
     assert_eq!(work, before);
     assert_eq!(image, kept);
     assert_eq!(run(&mut work, &mut image, usize::MAX), 33);
+}
+
+/// An input of 0, 47 or 49 bytes is refused, whatever the boot would come to.
+#[test]
+fn wrong_inputs_are_refused_by_every_boot() {
+    let whole = fresh();
+    let mut torn = fresh();
+    let mut stash = Work::new();
+    open_stash(&mut stash, &torn).expect("accepted");
+    run(&mut stash, &mut torn, 20);
+    let boots = [
+        (&whole, true, Outcome::Updated),
+        (&whole, false, Outcome::Kept),
+        (&torn, true, Outcome::Disabled),
+    ];
+    for (image, verdict, outcome) in boots {
+        let mut work = Work::new();
+        assert_eq!(work.open_update_boot(image, &INPUTS, verdict), Ok(outcome));
+        let before = work.clone();
+        for len in [0, 47, 49] {
+            let bytes = vec![0x77; len];
+            let mut wrong = [INPUTS; 3];
+            wrong[0].runtime = &bytes;
+            wrong[1].manifest = &bytes;
+            wrong[2].secret = &bytes;
+            for inputs in &wrong {
+                let cold = work.open_cold_boot(image, inputs);
+                assert_eq!(cold, Err(Refusal::WrongInput), "{len} bytes");
+                let update = work.open_update_boot(image, inputs, verdict);
+                assert_eq!(update, Err(Refusal::WrongInput), "{len} bytes, {outcome:?}");
+            }
+        }
+        assert_eq!(work, before);
+    }
+}
+
+#[test]
+fn a_digest_may_have_any_content() {
+    for (runtime, manifest) in [(0, 0x33), (0x11, 0), (0, 0), (0x11, 0x11)] {
+        let mut image = fresh();
+        let mut work = Work::new();
+        let inputs = BootInputs {
+            runtime: &[runtime; 48],
+            manifest: &[manifest; 48],
+            ..INPUTS
+        };
+        let update = work.open_update_boot(&image, &inputs, true);
+        assert_eq!(update, Ok(Outcome::Updated));
+        assert_eq!(run(&mut work, &mut image, usize::MAX), 62);
+        assert_eq!(work.open_cold_boot(&image, &inputs), Ok(Outcome::Cold));
+    }
+}
+
+/// PCR2 and PCR3 after a cold boot are zero extended by the runtime digest, then by the manifest digest.
+/// The digest is from GNU sha384sum:
+///
+/// ```text
+/// x48() { printf "%.0s$1" $(seq 48); }
+/// extend() { printf %b "$(sed 's/../\\x&/g' <<<"$1$2")" | sha384sum | cut -d' ' -f1; }
+/// extend "$(extend "$(x48 00)" "$(x48 11)")" "$(x48 33)"
+/// ```
+#[test]
+fn a_cold_boot_measures_runtime_then_manifest() {
+    let image = fresh();
+    let measured = "7c20878ab486f86b065344e2e6d2382b2cad84955ea5ecfd\
+                    80b5f91ea9c0cc701431809b9907e1ff24efe3a603c6f486";
+    assert_eq!(digest_at(&image, 40), measured, "PCR2");
+    assert_eq!(digest_at(&image, 52), measured, "PCR3");
+}
+
+#[test]
+fn exchanged_digests_give_other_registers() {
+    let image = fresh();
+    let mut other = fresh();
+    let mut work = Work::new();
+    let exchanged = BootInputs {
+        runtime: INPUTS.manifest,
+        manifest: INPUTS.runtime,
+        ..INPUTS
+    };
+    assert_eq!(work.open_cold_boot(&other, &exchanged), Ok(Outcome::Cold));
+    run(&mut work, &mut other, usize::MAX);
+    assert_ne!(digest_at(&other, 40), digest_at(&image, 40), "PCR2");
+    assert_ne!(digest_at(&other, 52), digest_at(&image, 52), "PCR3");
 }
 
 #[test]
@@ -206,4 +306,13 @@ fn a_refusal_is_its_number() {
 #[test]
 fn debug_does_not_show_the_secret() {
     assert_eq!(format!("{:?}", Work::new()), "Work { left: 0, .. }");
+    let inputs = BootInputs {
+        runtime: &[1],
+        manifest: &[2],
+        secret: &[3],
+    };
+    assert_eq!(
+        format!("{inputs:?}"),
+        "BootInputs { runtime: [1], manifest: [2], .. }"
+    );
 }
