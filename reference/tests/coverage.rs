@@ -1,12 +1,14 @@
 //! What the first scripts reach, and that the campaign tells.
 
 use reference::book::wrong::BOOKS;
-use reference::engine::Engine;
+use reference::boots::Inputs;
+use reference::engine::{Engine, Paper};
 use reference::generate::{cuts, fixed_inputs, program_input, script};
 use reference::layout::*;
+use reference::memory::Memory;
 use reference::player::{Player, Seen, NONE_IN_HAND};
-use reference::script::{Op, Reader, INPUT_BYTES, LENT_WORDS, LETTERS};
-use reference::sha384::BLOCK_BYTES;
+use reference::script::{BootBytes, Op, Reader, INPUT_BYTES, LENT_WORDS, LETTERS};
+use reference::sha384::{BLOCK_BYTES, DIGEST_BYTES};
 use reference::wrong::{caught, GROUPS};
 use std::collections::BTreeSet;
 
@@ -176,6 +178,141 @@ fn the_first_scripts_hold_slices_of_the_greatest_length() {
     assert!(lengths.last() > Some(&(SLICE_BYTES + 1)));
 }
 
+/// The inputs of a boot, its verdict if it is an update boot, and the image
+/// before it.
+struct Tried {
+    boot: BootBytes,
+    verdict: Option<u8>,
+    image: Vec<u32>,
+}
+
+/// Every boot of a list of operations.
+fn tried(ops: Vec<Op>) -> Vec<Tried> {
+    let mut player = Player::new(Engine::PAPER);
+    let mut found = Vec::new();
+    for op in ops {
+        let image = || player.image().to_vec();
+        found.extend(match &op {
+            Op::Cold(boot) => Some((boot.clone(), None, image())),
+            Op::Update(boot, verdict) => Some((boot.clone(), Some(*verdict), image())),
+            _ => None,
+        });
+        player.operate(op).expect("the books agree");
+    }
+    let tried = |(boot, verdict, image)| Tried {
+        boot,
+        verdict,
+        image,
+    };
+    found.into_iter().map(tried).collect()
+}
+
+/// What a boot comes to.
+const ENDS: [&str; 7] = [
+    "cold boot",
+    "updated",
+    "kept",
+    "mark not 1",
+    "off",
+    "not well formed",
+    "unlike PCR3",
+];
+
+impl Tried {
+    /// What it comes to with this manifest digest, if it is not refused.
+    fn end_with(&self, manifest: &[u8]) -> Option<&'static str> {
+        let inputs = Inputs {
+            manifest,
+            ..self.boot.inputs()
+        };
+        let opened = match self.verdict {
+            None => Engine::PAPER.open_cold(&self.image, inputs),
+            Some(verdict) => Engine::PAPER.open_update(&self.image, inputs, verdict == 1),
+        };
+        opened.ok().map(|(_, outcome)| match outcome {
+            COLD => "cold boot",
+            UPDATED => "updated",
+            KEPT => "kept",
+            _ => why_disabled(&self.image),
+        })
+    }
+
+    /// What it comes to.
+    fn end(&self) -> Option<&'static str> {
+        self.end_with(&self.boot.manifest)
+    }
+
+    /// Whether each input has 48 bytes and the secret is not zero.
+    fn right(&self) -> [bool; 3] {
+        let lengths = self.boot.named().map(|(_, bytes)| bytes.len());
+        let [runtime, manifest, secret] = lengths.map(|length| length == DIGEST_BYTES);
+        let zero = self.boot.secret.iter().all(|&byte| byte == 0);
+        [runtime, manifest, secret && !zero]
+    }
+}
+
+fn why_disabled(image: &[u32]) -> &'static str {
+    if image[MARK] != DONE {
+        "mark not 1"
+    } else if image[ATTESTATION] != ON {
+        "off"
+    } else if !Paper.well_formed(image) {
+        "not well formed"
+    } else {
+        "unlike PCR3"
+    }
+}
+
+/// Whether some of the boots is so, for every end that is named.
+fn each_end(boots: &[Tried], ends: &[&str], what: &str, so: impl Fn(&Tried, &str) -> bool) {
+    for end in ends {
+        assert!(boots.iter().any(|boot| so(boot, end)), "{what}: {end}");
+    }
+}
+
+/// Boots with every mix of right and wrong inputs, manifest digests of wrong
+/// lengths whatever the boot would come to, and odd digests that are accepted.
+fn hold_every_case_of_inputs(boots: &[Tried]) {
+    for which in 0..8 {
+        let wanted = [1, 2, 4].map(|bit| which & bit != 0);
+        assert!(
+            boots.iter().any(|boot| boot.right() == wanted),
+            "{wanted:?}"
+        );
+    }
+    for length in [0, 47, 49] {
+        let what = format!("a manifest digest of {length} bytes");
+        each_end(boots, &ENDS, &what, |tried, end| {
+            tried.boot.manifest.len() == length && tried.end_with(&ZERO) == Some(end)
+        });
+    }
+    let taken = &ENDS[..3];
+    each_end(boots, taken, "equal digests", |tried, end| {
+        tried.boot.manifest == tried.boot.runtime && tried.end() == Some(end)
+    });
+    each_end(boots, taken, "a manifest of zeros", |tried, end| {
+        tried.boot.manifest == ZERO && tried.end() == Some(end)
+    });
+    each_end(boots, taken, "a runtime of zeros", |tried, end| {
+        tried.boot.runtime == ZERO && tried.end() == Some(end)
+    });
+}
+
+#[test]
+fn the_first_scripts_hold_every_case_of_a_boots_inputs() {
+    let scripts = (0..SEEDS).flat_map(|seed| tried(script(seed).ops));
+    hold_every_case_of_inputs(&scripts.collect::<Vec<_>>());
+}
+
+#[test]
+fn an_input_without_a_seed_holds_every_case_of_a_boots_inputs() {
+    let inputs = fixed_inputs();
+    let boots = inputs
+        .iter()
+        .flat_map(|input| tried(Reader::new(input).collect()));
+    hold_every_case_of_inputs(&boots.collect::<Vec<_>>());
+}
+
 #[test]
 fn the_inputs_without_a_seed_hold_every_case() {
     let mut found = BTreeSet::new();
@@ -201,6 +338,12 @@ fn the_inputs_without_a_seed_hold_every_case() {
         }
     }
     let numbers = [
+        ('C', 0),
+        ('C', 6),
+        ('S', 0),
+        ('S', 9),
+        ('U', 0),
+        ('U', 6),
         ('e', 0),
         ('e', 27),
         ('f', 0),
