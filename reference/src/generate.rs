@@ -20,7 +20,7 @@ use crate::random::Random;
 use crate::script::{encode, BootBytes, Op};
 
 /// A script grows no more once it has this many bytes.
-const ENOUGH: usize = 8_500;
+const ENOUGH: usize = 9_500;
 
 /// One operation in so many has one on the running digest before it.
 const RUNNING_BETWEEN: usize = 24;

@@ -178,35 +178,6 @@ fn the_first_scripts_hold_slices_of_the_greatest_length() {
     assert!(lengths.last() > Some(&(SLICE_BYTES + 1)));
 }
 
-/// The inputs of a boot, its verdict if it is an update boot, and the image
-/// before it.
-struct Tried {
-    boot: BootBytes,
-    verdict: Option<u8>,
-    image: Vec<u32>,
-}
-
-/// Every boot of a list of operations.
-fn tried(ops: Vec<Op>) -> Vec<Tried> {
-    let mut player = Player::new(Engine::PAPER);
-    let mut found = Vec::new();
-    for op in ops {
-        let image = || player.image().to_vec();
-        found.extend(match &op {
-            Op::Cold(boot) => Some((boot.clone(), None, image())),
-            Op::Update(boot, verdict) => Some((boot.clone(), Some(*verdict), image())),
-            _ => None,
-        });
-        player.operate(op).expect("the books agree");
-    }
-    let tried = |(boot, verdict, image)| Tried {
-        boot,
-        verdict,
-        image,
-    };
-    found.into_iter().map(tried).collect()
-}
-
 /// What a boot comes to.
 const ENDS: [&str; 7] = [
     "cold boot",
@@ -218,37 +189,51 @@ const ENDS: [&str; 7] = [
     "unlike PCR3",
 ];
 
-impl Tried {
-    /// What it comes to with this manifest digest, if it is not refused.
-    fn end_with(&self, manifest: &[u8]) -> Option<&'static str> {
-        let inputs = Inputs {
-            manifest,
-            ..self.boot.inputs()
-        };
-        let opened = match self.verdict {
-            None => Engine::PAPER.open_cold(&self.image, inputs),
-            Some(verdict) => Engine::PAPER.open_update(&self.image, inputs, verdict == 1),
-        };
-        opened.ok().map(|(_, outcome)| match outcome {
-            COLD => "cold boot",
-            UPDATED => "updated",
-            KEPT => "kept",
-            _ => why_disabled(&self.image),
-        })
-    }
+/// What is told apart of a boot's inputs, and what the boot comes to.
+#[derive(Debug, PartialEq, Eq, PartialOrd, Ord)]
+struct Case {
+    /// Whether runtime digest, manifest digest and secret are fine.
+    fine: [bool; 3],
+    manifest_bytes: usize,
+    equal: bool,
+    zero_runtime: bool,
+    zero_manifest: bool,
+    /// None if the boot is refused, with a right manifest digest too.
+    end: Option<&'static str>,
+}
 
-    /// What it comes to.
-    fn end(&self) -> Option<&'static str> {
-        self.end_with(&self.boot.manifest)
-    }
-
-    /// Whether each input has 48 bytes and the secret is not zero.
-    fn right(&self) -> [bool; 3] {
-        let lengths = self.boot.named().map(|(_, bytes)| bytes.len());
+impl Case {
+    /// A boot on an image, with a verdict if it is an update boot.
+    fn of(image: &[u32], boot: &BootBytes, verdict: Option<u8>) -> Case {
+        let lengths = boot.named().map(|(_, bytes)| bytes.len());
         let [runtime, manifest, secret] = lengths.map(|length| length == DIGEST_BYTES);
-        let zero = self.boot.secret.iter().all(|&byte| byte == 0);
-        [runtime, manifest, secret && !zero]
+        Case {
+            fine: [runtime, manifest, secret && boot.secret != ZERO],
+            manifest_bytes: boot.manifest.len(),
+            equal: boot.manifest == boot.runtime,
+            zero_runtime: boot.runtime == ZERO,
+            zero_manifest: boot.manifest == ZERO,
+            end: end(image, boot, verdict),
+        }
     }
+}
+
+/// What a boot comes to with a right manifest digest.
+fn end(image: &[u32], boot: &BootBytes, verdict: Option<u8>) -> Option<&'static str> {
+    let inputs = Inputs {
+        manifest: &ZERO,
+        ..boot.inputs()
+    };
+    let opened = match verdict {
+        None => Engine::PAPER.open_cold(image, inputs),
+        Some(verdict) => Engine::PAPER.open_update(image, inputs, verdict == 1),
+    };
+    opened.ok().map(|(_, outcome)| match outcome {
+        COLD => "cold boot",
+        UPDATED => "updated",
+        KEPT => "kept",
+        _ => why_disabled(image),
+    })
 }
 
 fn why_disabled(image: &[u32]) -> &'static str {
@@ -263,54 +248,57 @@ fn why_disabled(image: &[u32]) -> &'static str {
     }
 }
 
-/// Whether some of the boots is so, for every end that is named.
-fn each_end(boots: &[Tried], ends: &[&str], what: &str, so: impl Fn(&Tried, &str) -> bool) {
-    for end in ends {
-        assert!(boots.iter().any(|boot| so(boot, end)), "{what}: {end}");
+/// The cases of all boots of a list of operations.
+fn boots(ops: impl Iterator<Item = Op>) -> BTreeSet<Case> {
+    let mut player = Player::new(Engine::PAPER);
+    let mut cases = BTreeSet::new();
+    for op in ops {
+        cases.extend(match &op {
+            Op::Cold(boot) => Some(Case::of(player.image(), boot, None)),
+            Op::Update(boot, verdict) => Some(Case::of(player.image(), boot, Some(*verdict))),
+            _ => None,
+        });
+        player.operate(op).expect("the books agree");
     }
+    cases
 }
 
-/// Boots with every mix of right and wrong inputs, manifest digests of wrong
-/// lengths whatever the boot would come to, and odd digests that are accepted.
-fn hold_every_case_of_inputs(boots: &[Tried]) {
+/// Every mix of right and wrong inputs; manifest digests of wrong lengths,
+/// whatever the boot would come to; and odd digests that are accepted.
+fn has_every_case(cases: &BTreeSet<Case>) {
     for which in 0..8 {
-        let wanted = [1, 2, 4].map(|bit| which & bit != 0);
-        assert!(
-            boots.iter().any(|boot| boot.right() == wanted),
-            "{wanted:?}"
-        );
+        let fine = [1, 2, 4].map(|bit| which & bit != 0);
+        assert!(cases.iter().any(|case| case.fine == fine), "{fine:?}");
     }
     for length in [0, 47, 49] {
-        let what = format!("a manifest digest of {length} bytes");
-        each_end(boots, &ENDS, &what, |tried, end| {
-            tried.boot.manifest.len() == length && tried.end_with(&ZERO) == Some(end)
-        });
+        has_ends(cases, &ENDS, |case| case.manifest_bytes == length);
     }
-    let taken = &ENDS[..3];
-    each_end(boots, taken, "equal digests", |tried, end| {
-        tried.boot.manifest == tried.boot.runtime && tried.end() == Some(end)
-    });
-    each_end(boots, taken, "a manifest of zeros", |tried, end| {
-        tried.boot.manifest == ZERO && tried.end() == Some(end)
-    });
-    each_end(boots, taken, "a runtime of zeros", |tried, end| {
-        tried.boot.runtime == ZERO && tried.end() == Some(end)
-    });
+    let accepted = &ENDS[..3];
+    has_ends(cases, accepted, |case| case.fine[1] && case.equal);
+    has_ends(cases, accepted, |case| case.zero_manifest);
+    has_ends(cases, accepted, |case| case.fine[1] && case.zero_runtime);
+}
+
+/// Whether cases of a sort come to all these ends.
+fn has_ends(cases: &BTreeSet<Case>, ends: &[&str], sort: impl Fn(&Case) -> bool) {
+    let of_sort = cases.iter().filter(|case| sort(case));
+    let found: BTreeSet<&str> = of_sort.filter_map(|case| case.end).collect();
+    for end in ends {
+        assert!(found.contains(end), "{end} is not among {found:?}");
+    }
 }
 
 #[test]
 fn the_first_scripts_hold_every_case_of_a_boots_inputs() {
-    let scripts = (0..SEEDS).flat_map(|seed| tried(script(seed).ops));
-    hold_every_case_of_inputs(&scripts.collect::<Vec<_>>());
+    let scripts = (0..SEEDS).flat_map(|seed| boots(script(seed).ops.into_iter()));
+    has_every_case(&scripts.collect());
 }
 
 #[test]
 fn an_input_without_a_seed_holds_every_case_of_a_boots_inputs() {
     let inputs = fixed_inputs();
-    let boots = inputs
-        .iter()
-        .flat_map(|input| tried(Reader::new(input).collect()));
-    hold_every_case_of_inputs(&boots.collect::<Vec<_>>());
+    let cases = inputs.iter().flat_map(|input| boots(Reader::new(input)));
+    has_every_case(&cases.collect());
 }
 
 #[test]
