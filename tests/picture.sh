@@ -30,11 +30,11 @@ repeat() { # COUNT BYTE
     printf -v escapes "%$1s" ''
     printf '%s' "${escapes// /$(u8 "$2")}"
 }
-boot_inputs() { # DIGEST SECRET: each 48 times one byte
-    u16 48 && repeat 48 "$1" && u16 48 && repeat 48 "$2"
+boot_inputs() { # RUNTIME MANIFEST SECRET: each 48 times one byte
+    u16 48 && repeat 48 "$1" && u16 48 && repeat 48 "$2" && u16 48 && repeat 48 "$3"
 }
-cold_boot() { printf C && boot_inputs "$1" "$2"; }
-update_boot() { printf U && boot_inputs "$1" "$2" && u8 "$3"; }
+cold_boot() { printf C && boot_inputs "$1" "$2" "$3"; }
+update_boot() { printf U && boot_inputs "$1" "$2" "$3" && u8 "$4"; }
 request() { # CODE LENGTH REQUEST
     printf R && u32 "$1" && u32 0 && u8 0 && u16 0 && u16 "$2" && printf '%s' "$3"
 }
@@ -51,11 +51,12 @@ disable() { request 0x4453424C 4 "$(u32 0xFFFFFEDB)"; }
 # ---- the kinds of work: what is done before, how it is opened, and the length of both replies
 
 names=('a new measurement' 'an update' 'a disable command' 'a boot that switches off' 'a cold boot (a new list)')
-unit=$(cold_boot 0x11 0x22 && all && stash 0x33 && all)
+unit=$(cold_boot 0x11 0x33 0x22 && all && stash 0x33 && all)
 before=('' '' '' "$(disable && all)" '')
-opening=("$(stash 0x44)" "$(update_boot 0x55 0x66 1)" "$(disable)" "$(update_boot 0x55 0x66 1)" "$(cold_boot 0x77 0x88)")
+update=$(update_boot 0x55 0x99 0x66 1)
+opening=("$(stash 0x44)" "$update" "$(disable)" "$update" "$(cold_boot 0x77 0xAA 0x88)")
 replies=(8 9 8 25 9)
-reboot=X$(update_boot 0x11 0x22 0 && all)D
+reboot=X$(update_boot 0x11 0x33 0x22 0 && all)D
 
 # The last four bytes of a number's reply, as a number.
 last_number() { tail -c 4 | od -An -tu4 --endian=little | tr -d ' \n'; }

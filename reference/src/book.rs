@@ -55,6 +55,15 @@ struct Node {
     locality: u32,
 }
 
+/// A register's value after a boot, from the one before.
+type Measure = fn(&Digest, &Boot) -> Digest;
+
+/// The runtime digest first, then the manifest digest.
+fn runtime_then_manifest(before: &Digest, boot: &Boot) -> Digest {
+    let with_runtime = extended(before, &boot.runtime);
+    extended(&with_runtime, &boot.manifest)
+}
+
 /// Registers and nodes.
 #[derive(Clone, Debug, PartialEq, Eq)]
 struct State {
@@ -70,14 +79,15 @@ impl State {
         }
     }
 
-    fn replay(history: &[Event]) -> State {
-        history.iter().fold(State::empty(), State::after)
+    fn replay(history: &[Event], measure: Measure) -> State {
+        let next = |state: State, event: &Event| state.after(event, measure);
+        history.iter().fold(State::empty(), next)
     }
 
-    fn after(mut self, event: &Event) -> State {
+    fn after(mut self, event: &Event, measure: Measure) -> State {
         match event {
-            Event::Cold(Boot { digest, .. }) => {
-                let journey = extended(&ZERO, digest);
+            Event::Cold(boot) => {
+                let journey = measure(&ZERO, boot);
                 let mut state = State::empty();
                 state.registers[CURRENT] = journey;
                 state.registers[JOURNEY] = journey;
@@ -91,10 +101,10 @@ impl State {
                 });
                 return state;
             }
-            Event::Update(Boot { digest, .. }) => {
-                self.registers[CURRENT] = extended(&ZERO, digest);
-                self.registers[JOURNEY] = extended(&self.registers[JOURNEY], digest);
-                let journey = self.registers[JOURNEY];
+            Event::Update(boot) => {
+                let journey = measure(&self.registers[JOURNEY], boot);
+                self.registers[CURRENT] = measure(&ZERO, boot);
+                self.registers[JOURNEY] = journey;
                 let root = self.nodes.iter_mut().flatten().find(|n| n.parent.is_none());
                 let root = root.expect("a counted update has a root");
                 root.current = journey;
@@ -188,6 +198,8 @@ pub struct Book {
     history: Vec<Event>,
     /// The fold of the history so far.
     state: State,
+    /// What a boot in the history does to a register.
+    measure: Measure,
     in_hand: Option<Hand>,
     torn: bool,
     unfinished: bool,
@@ -199,10 +211,15 @@ impl Book {
     /// The book right after all stores of a cold boot. That work is still in
     /// hand, finished.
     pub fn after_cold_boot(boot: Boot) -> Book {
+        Book::measuring(boot, runtime_then_manifest)
+    }
+
+    fn measuring(boot: Boot, measure: Measure) -> Book {
         let event = Event::Cold(boot);
         Book {
-            state: State::empty().after(&event),
+            state: State::empty().after(&event, measure),
             history: vec![event.clone()],
+            measure,
             in_hand: Some(Hand {
                 made: event.number(),
                 event,
@@ -322,13 +339,14 @@ impl Book {
     }
 
     fn counts(&mut self, event: Event) {
-        self.state = std::mem::replace(&mut self.state, State::empty()).after(&event);
+        let before = std::mem::replace(&mut self.state, State::empty());
+        self.state = before.after(&event, self.measure);
         self.history.push(event);
     }
 
     /// Demand 3 at a look, against the image.
     pub fn look(&mut self, _look: Look, image: &[u32]) -> Result<(), String> {
-        if State::replay(&self.history) != self.state {
+        if State::replay(&self.history, self.measure) != self.state {
             return Err("the book's state is not its history's".into());
         }
         if self.torn {

@@ -8,15 +8,59 @@ use crate::work::{Kind, Work};
 /// A boot's inputs as they are handed over, of any lengths.
 #[derive(Clone, Copy)]
 pub struct Inputs<'a> {
-    pub digest: &'a [u8],
+    pub runtime: &'a [u8],
+    pub manifest: &'a [u8],
     pub secret: &'a [u8],
+}
+
+impl Inputs<'_> {
+    /// The inputs if each has 48 bytes.
+    pub fn of_48_bytes(self) -> Option<Boot> {
+        Some(Boot {
+            runtime: self.runtime.try_into().ok()?,
+            manifest: self.manifest.try_into().ok()?,
+            secret: self.secret.try_into().ok()?,
+        })
+    }
 }
 
 /// A boot's inputs, found acceptable.
 #[derive(Clone, Debug, PartialEq, Eq)]
 pub struct Boot {
-    pub digest: Digest,
+    pub runtime: Digest,
+    pub manifest: Digest,
     pub secret: Digest,
+}
+
+/// What the measurements of a boot start from: PCR3 and the root's cumulative
+/// before it.
+pub struct Before {
+    pub journey: Digest,
+    pub cumulative: Digest,
+}
+
+impl Before {
+    /// Before a cold boot.
+    pub const ZERO: Before = Before {
+        journey: ZERO,
+        cumulative: ZERO,
+    };
+
+    /// Before an update with that root.
+    fn in_unit(unit: Unit, root: usize) -> Before {
+        Before {
+            journey: unit.bytes_at(register(JOURNEY)),
+            cumulative: unit.bytes_at(node(root) + NODE_CUMULATIVE),
+        }
+    }
+}
+
+/// The measurements that a boot stores: PCR2, PCR3 and the root's two.
+pub struct Measured {
+    pub current: Digest,
+    pub journey: Digest,
+    pub root_current: Digest,
+    pub root_cumulative: Digest,
 }
 
 /// An accepted boot: its work and its outcome.
@@ -28,7 +72,8 @@ pub trait Boots {
     fn cold(&self, image: &[u32], inputs: Inputs) -> Result<Opened, u32> {
         let boot = self.accept(image, inputs)?;
         let mut work = Work::new(Kind::Cold, &[]);
-        work.whole = booted(&boot).split_off(ATTESTATION);
+        let measured = self.measured(&Before::ZERO, &boot);
+        work.whole = booted(&measured, &boot.secret).split_off(ATTESTATION);
         Ok((work, COLD))
     }
 
@@ -54,9 +99,7 @@ pub trait Boots {
 
     /// Inputs of 48 bytes each, the secret not all zero.
     fn boot(&self, inputs: Inputs) -> Option<Boot> {
-        let digest = inputs.digest.try_into().ok()?;
-        let secret = inputs.secret.try_into().ok()?;
-        (secret != ZERO).then_some(Boot { digest, secret })
+        inputs.of_48_bytes().filter(|boot| boot.secret != ZERO)
     }
 
     /// The root, unless the update boot has to disable the unit.
@@ -70,36 +113,51 @@ pub trait Boots {
     }
 
     fn update_work(&self, unit: Unit, root: usize, boot: &Boot) -> Work {
-        let current = extended(&ZERO, &boot.digest);
-        let journey = extended(&unit.bytes_at(register(JOURNEY)), &boot.digest);
-        let cumulative = extended(&unit.bytes_at(node(root) + NODE_CUMULATIVE), &journey);
+        let measured = self.measured(&Before::in_unit(unit, root), boot);
         let mut work = Work::new(Kind::Update { root: root as u64 }, &[]);
-        work.current = words_of(&current);
-        work.journey = words_of(&journey);
+        work.current = words_of(&measured.current);
+        work.journey = words_of(&measured.journey);
         work.secret = words_of(&boot.secret);
-        work.set_node(NODE_CURRENT, &journey);
-        work.set_node(NODE_CUMULATIVE, &cumulative);
+        work.set_node(NODE_CURRENT, &measured.root_current);
+        work.set_node(NODE_CUMULATIVE, &measured.root_cumulative);
         work
+    }
+
+    /// The digests that PCR2 and PCR3 are extended by, in order.
+    fn digests(&self, boot: &Boot) -> Vec<Digest> {
+        vec![boot.runtime, boot.manifest]
+    }
+
+    /// What either boot stores. The root's cumulative is extended once, by the
+    /// new PCR3.
+    fn measured(&self, before: &Before, boot: &Boot) -> Measured {
+        let digests = self.digests(boot);
+        let journey = extended_by(&before.journey, &digests);
+        Measured {
+            current: extended_by(&ZERO, &digests),
+            journey,
+            root_current: journey,
+            root_cumulative: extended(&before.cumulative, &journey),
+        }
     }
 }
 
 /// The image after a cold boot but for the mark: attestation on, both boot
 /// registers, and the root at node 0. Every other word is zero.
-fn booted(boot: &Boot) -> Vec<u32> {
-    let journey = extended(&ZERO, &boot.digest);
+fn booted(measured: &Measured, secret: &Digest) -> Vec<u32> {
     let root = node(0);
     let mut image = vec![0; IMAGE_WORDS];
     image[ATTESTATION] = ON;
-    put(&mut image, SECRET, &boot.secret);
-    put(&mut image, register(CURRENT), &journey);
-    put(&mut image, register(JOURNEY), &journey);
+    put(&mut image, SECRET, secret);
+    put(&mut image, register(CURRENT), &measured.current);
+    put(&mut image, register(JOURNEY), &measured.journey);
     image[root] = ROOT_PARENT << 16 | USED;
     image[root + FLAGS] = INTERNAL;
-    put(&mut image, root + NODE_CURRENT, &journey);
+    put(&mut image, root + NODE_CURRENT, &measured.root_current);
     put(
         &mut image,
         root + NODE_CUMULATIVE,
-        &extended(&ZERO, &journey),
+        &measured.root_cumulative,
     );
     image[root + TYPE] = RTJM;
     image

@@ -147,9 +147,10 @@ fn inputs_without_seed() -> Vec<Vec<u8>> {
 
 fn longest_operations() -> Vec<Op> {
     let most = usize::from(u16::MAX);
-    let boot = |digest: usize, secret: usize| {
+    let boot = |runtime: usize, manifest: usize, secret: usize| {
         Op::Cold(BootBytes {
-            digest: vec![1; digest],
+            runtime: vec![1; runtime],
+            manifest: vec![3; manifest],
             secret: vec![2; secret],
         })
     };
@@ -164,9 +165,10 @@ fn longest_operations() -> Vec<Op> {
     };
     vec![
         Op::Answer(u16::MAX),
-        boot(most, most),
-        boot(48, most),
-        boot(48, 48),
+        boot(most, most, most),
+        boot(48, most, 48),
+        boot(48, 48, most),
+        boot(48, 48, 48),
         Op::Store(u32::MAX),
         Op::Answer(u16::MAX),
         request(most, DISABLE, most),
@@ -178,7 +180,7 @@ fn longest_operations() -> Vec<Op> {
         Op::Answer(u16::MAX),
         Op::Image(vec![1; LENT_WORDS]),
         Op::Left,
-        boot(48, 48),
+        boot(48, 48, 48),
         Op::Dump,
     ]
 }

@@ -3,6 +3,7 @@
 mod broken;
 mod damage;
 mod fixed;
+mod fixed_boots;
 mod images;
 mod lists;
 mod requests;
@@ -19,7 +20,7 @@ use crate::random::Random;
 use crate::script::{encode, BootBytes, Op};
 
 /// A script grows no more once it has this many bytes.
-const ENOUGH: usize = 8_500;
+const ENOUGH: usize = 9_500;
 
 /// One operation in so many has one on the running digest before it.
 const RUNNING_BETWEEN: usize = 24;
@@ -134,29 +135,61 @@ impl Maker {
     }
 
     fn boot_inputs(&mut self) -> BootBytes {
+        let runtime = self.digest();
         BootBytes {
-            digest: self.digest(),
+            manifest: self.manifest(&runtime),
+            runtime,
             secret: self.secret(),
         }
     }
 
-    /// A boot's inputs that are refused.
+    /// A manifest digest that is accepted: now and then the runtime digest's
+    /// bytes.
+    fn manifest(&mut self, runtime: &[u8]) -> Vec<u8> {
+        match self.random.below(8) {
+            0 => runtime.to_vec(),
+            _ => self.digest(),
+        }
+    }
+
+    /// A boot's inputs that are refused: one of them is wrong, or several.
     fn bad_boot_inputs(&mut self) -> BootBytes {
-        let length = self.random.pick(&[0, 1, 47, 49, 48 + 48, 12]);
         let mut boot = self.boot_inputs();
+        if self.random.once_in(8) {
+            self.shift_byte(&mut boot);
+            return boot;
+        }
+        self.spoil_input(&mut boot);
+        while self.random.once_in(3) {
+            self.spoil_input(&mut boot);
+        }
+        boot
+    }
+
+    /// Moves a byte between two of a boot's inputs: together they keep their
+    /// length.
+    fn shift_byte(&mut self, boot: &mut BootBytes) {
         match self.random.below(4) {
-            0 => boot.digest = self.random.bytes(length),
-            1 => {
+            0 => boot.manifest.extend(boot.runtime.pop()),
+            1 => boot.runtime.extend(boot.manifest.pop()),
+            2 => boot.secret.extend(boot.manifest.pop()),
+            _ => boot.manifest.extend(boot.secret.pop()),
+        }
+    }
+
+    /// Makes one of a boot's inputs wrong.
+    fn spoil_input(&mut self, boot: &mut BootBytes) {
+        let length = self.random.pick(&[0, 1, 12, 47, 47, 49, 49, 48 + 48]);
+        match self.random.below(6) {
+            0 => boot.runtime = self.random.bytes(length),
+            1 | 2 => boot.manifest = self.random.bytes(length),
+            3 => {
                 boot.secret = self.random.bytes(length);
                 boot.secret.iter_mut().for_each(|byte| *byte |= 1);
             }
-            2 => boot.secret.fill(0),
-            _ => {
-                boot.digest = self.random.bytes(length);
-                boot.secret = vec![0; length];
-            }
+            4 => boot.secret = vec![0; length],
+            _ => boot.secret = vec![0; 48],
         }
-        boot
     }
 
     fn verdict(&mut self, yes: bool) -> u8 {
@@ -197,6 +230,18 @@ impl Maker {
             _ => Op::Update(boot, verdict),
         };
         self.push(op);
+    }
+
+    /// An update boot that only the length of its manifest digest is against.
+    fn push_bad_manifest(&mut self) {
+        let length = self.random.pick(&[0, 47, 49]);
+        let boot = BootBytes {
+            manifest: self.random.bytes(length),
+            ..self.boot_inputs()
+        };
+        let yes = self.random.once_in(2);
+        let verdict = self.verdict(yes);
+        self.push(Op::Update(boot, verdict));
     }
 
     /// Looks without consequence: stores left, an answer, the image.

@@ -185,3 +185,8 @@ pub fn extended(old: &Digest, by: &Digest) -> Digest {
     both[DIGEST_BYTES..].copy_from_slice(by);
     digest(&both)
 }
+
+/// `old` extended by each of a list, the first first.
+pub fn extended_by(old: &Digest, list: &[Digest]) -> Digest {
+    list.iter().fold(*old, |value, by| extended(&value, by))
+}

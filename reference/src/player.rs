@@ -340,7 +340,7 @@ impl Player {
     fn start_of_list(&mut self) {
         if let (Watch::Booting(boot), Some(work)) = (&self.watch, &self.work) {
             if self.engine.left(work) == 0 {
-                let book = Book::after_cold_boot(boot.clone());
+                let book = self.keeper.cold(boot.clone());
                 self.watch = Watch::List(Box::new(book));
             }
         }

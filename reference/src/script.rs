@@ -12,21 +12,43 @@ pub const LENT_WORDS: usize = 4_096;
 /// A boot's inputs, of any lengths.
 #[derive(Clone, Debug, PartialEq, Eq)]
 pub struct BootBytes {
-    pub digest: Vec<u8>,
+    pub runtime: Vec<u8>,
+    pub manifest: Vec<u8>,
     pub secret: Vec<u8>,
 }
 
 impl BootBytes {
     pub fn inputs(&self) -> Inputs<'_> {
         Inputs {
-            digest: &self.digest,
+            runtime: &self.runtime,
+            manifest: &self.manifest,
             secret: &self.secret,
         }
     }
 
+    /// The inputs by name, in the order in which a script has them.
+    pub fn named(&self) -> [(&'static str, &[u8]); 3] {
+        [
+            ("runtime", &self.runtime),
+            ("manifest", &self.manifest),
+            ("secret", &self.secret),
+        ]
+    }
+
     fn encode(&self, out: &mut Vec<u8>) {
-        put_string(out, &self.digest);
-        put_string(out, &self.secret);
+        for (_, bytes) in self.named() {
+            put_string(out, bytes);
+        }
+    }
+}
+
+impl From<Inputs<'_>> for BootBytes {
+    fn from(inputs: Inputs) -> BootBytes {
+        BootBytes {
+            runtime: inputs.runtime.to_vec(),
+            manifest: inputs.manifest.to_vec(),
+            secret: inputs.secret.to_vec(),
+        }
     }
 }
 
@@ -254,7 +276,8 @@ impl<'a> Fields<'a> {
 
     fn boot(&mut self) -> Option<BootBytes> {
         Some(BootBytes {
-            digest: self.string()?,
+            runtime: self.string()?,
+            manifest: self.string()?,
             secret: self.string()?,
         })
     }
@@ -274,9 +297,10 @@ impl<'a> Fields<'a> {
 mod tests {
     use super::*;
 
-    fn boot(digest: usize, secret: usize) -> BootBytes {
+    fn boot(runtime: usize, manifest: usize, secret: usize) -> BootBytes {
         BootBytes {
-            digest: vec![1; digest],
+            runtime: vec![1; runtime],
+            manifest: vec![3; manifest],
             secret: vec![2; secret],
         }
     }
@@ -285,8 +309,8 @@ mod tests {
     fn every_operation_reads_as_written() {
         let ops = vec![
             Op::Image(vec![1, 0x0403_0201]),
-            Op::Cold(boot(48, 0)),
-            Op::Update(boot(0, 49), 7),
+            Op::Cold(boot(48, 47, 0)),
+            Op::Update(boot(0, 300, 49), 7),
             Op::Request(Mail {
                 code: 0x0102_0304,
                 caller: 5,
@@ -320,10 +344,19 @@ mod tests {
     }
 
     #[test]
+    fn a_boot_has_runtime_manifest_and_secret_in_this_order() {
+        let inputs = b"\x02\0\x01\x01\x01\0\x03\x03\0\x02\x02\x02";
+        assert_eq!(Op::Cold(boot(2, 1, 3)).bytes()[1..], *inputs);
+        let update = [b"U", &inputs[..], b"\x07"].concat();
+        let expected = Op::Update(boot(2, 1, 3), 7);
+        assert_eq!(Reader::new(&update).next(), Some(expected));
+    }
+
+    #[test]
     fn an_operation_cut_short_is_none() {
         for op in [
             Op::Image(vec![1; 3]),
-            Op::Update(boot(4, 4), 1),
+            Op::Update(boot(4, 5, 6), 1),
             Op::Set { field: 0, value: 3 },
             Op::Feed(vec![6; 5]),
             Op::SetCount { field: 0, value: 3 },

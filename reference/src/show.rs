@@ -87,11 +87,9 @@ fn image(words: &[u32]) -> String {
 }
 
 fn boot(boot: &BootBytes) -> String {
-    format!(
-        "digest {}, secret {}",
-        told(&boot.digest),
-        told(&boot.secret)
-    )
+    let inputs = boot.named();
+    let told = inputs.map(|(name, bytes)| format!("{name} {}", told(bytes)));
+    told.join(", ")
 }
 
 fn mail(mail: &Mail) -> String {

@@ -7,8 +7,10 @@
 mod boots;
 mod caught;
 mod empty;
+mod manifest;
 mod memory;
 mod program;
+mod program_boot;
 mod requests;
 mod running;
 mod shortcuts;
@@ -19,6 +21,7 @@ pub use caught::{caught, Caught};
 
 use crate::book::wrong::BOOKS;
 use crate::engine::Engine;
+use Shown::{ByProgram, ByProgramImage, ByScripts};
 
 /// A wrong engine.
 #[derive(Clone, Copy)]
@@ -29,35 +32,52 @@ pub struct Wrong {
     pub engine: Engine,
 }
 
+/// Where a fault has to show.
+#[derive(Clone, Copy)]
+pub enum Shown {
+    /// In what a script of the driver writes.
+    ByScripts,
+    /// In what the small program writes.
+    ByProgram,
+    /// In the image of the small program, of which it writes nothing.
+    ByProgramImage,
+}
+
 /// Wrong engines that belong together.
 pub struct Group {
     pub title: &'static str,
     pub engines: &'static [Wrong],
-    /// Whether the fault is in the small program, not in the entries.
-    pub of_program: bool,
+    pub shown: Shown,
 }
 
-const fn group(title: &'static str, engines: &'static [Wrong]) -> Group {
+const fn group(title: &'static str, engines: &'static [Wrong], shown: Shown) -> Group {
     Group {
         title,
         engines,
-        of_program: false,
+        shown,
     }
 }
 
 pub const GROUPS: &[Group] = &[
-    group("Shortcuts the buyer would catch", shortcuts::ENGINES),
-    group("Empty builds", empty::ENGINES),
-    group("The image", memory::ENGINES),
-    group("Requests", requests::ENGINES),
-    group("Stash", stash::ENGINES),
-    group("Boots", boots::ENGINES),
-    group("Works by value", works::ENGINES),
-    group("The running digest", running::ENGINES),
-    Group {
-        of_program: true,
-        ..group("The small program", program::ENGINES)
-    },
+    group(
+        "Shortcuts the buyer would catch",
+        shortcuts::ENGINES,
+        ByScripts,
+    ),
+    group("Empty builds", empty::ENGINES, ByScripts),
+    group("The image", memory::ENGINES, ByScripts),
+    group("Requests", requests::ENGINES, ByScripts),
+    group("Stash", stash::ENGINES, ByScripts),
+    group("Boots", boots::ENGINES, ByScripts),
+    group("The manifest digest", manifest::ENGINES, ByScripts),
+    group("Works by value", works::ENGINES, ByScripts),
+    group("The running digest", running::ENGINES, ByScripts),
+    group("The small program", program::ENGINES, ByProgram),
+    group(
+        "The small program's boot",
+        program_boot::ENGINES,
+        ByProgramImage,
+    ),
 ];
 
 /// The wrong engine of a name.

@@ -18,13 +18,15 @@ use reference::work::{Kind, Work};
 const ENGINE: Engine = Engine::PAPER;
 
 const NO_INPUTS: Inputs = Inputs {
-    digest: &[],
+    runtime: &[],
+    manifest: &[],
     secret: &[],
 };
 
 const UPDATED_WITH: Inputs = Inputs {
-    digest: &[0x44; 48],
-    secret: &[0x55; 48],
+    runtime: &[0x44; 48],
+    manifest: &[0x55; 48],
+    secret: &[0x66; 48],
 };
 
 fn well_formed(image: &[u32]) -> bool {
@@ -141,7 +143,7 @@ fn card_7_and_the_booted() {
     let root = node_of(&image, 0);
     let journey = &image[register(JOURNEY)..][..DIGEST_WORDS];
     assert_eq!(root[0], 0x00FF_0001);
-    assert_eq!(image[register(CURRENT)], 0x0A4E_30C7);
+    assert_eq!(image[register(CURRENT)], 0x8A87_207C);
     assert_eq!(image[..SECRET], [1, 1, 0, 0]);
     assert_eq!(image[SECRET..REGISTERS_AT], [0x2222_2222; 12]);
     assert_eq!(image[register(CURRENT)..][..DIGEST_WORDS], *journey);
@@ -149,15 +151,6 @@ fn card_7_and_the_booted() {
     assert_eq!(root[FLAGS], 0x8000_0000);
     assert_eq!(root[TYPE], RTJM);
     assert!(image[node(1)..].iter().all(|&word| word == 0));
-    let hex: String = bytes_of(&image[register(CURRENT)..])
-        .iter()
-        .map(|byte| format!("{byte:02x}"))
-        .collect();
-    assert_eq!(
-        hex,
-        "c7304e0aec48bbbc703c099b425485b7a60e19b6a83630b0\
-         fb558ce2f02ec41e4cdf205335b4b613b3537ad83eb62262"
-    );
     assert!(well_formed(&image));
 }
 
@@ -425,7 +418,8 @@ fn a_request_over_a_half_stored_work_leaves_it_in_hand() {
         })
     };
     let boot = |filling: u8| BootBytes {
-        digest: vec![filling; 48],
+        runtime: vec![filling; 48],
+        manifest: vec![filling; 48],
         secret: vec![filling; 48],
     };
     let script = encode(&[
@@ -486,8 +480,9 @@ fn every_store_goes_where_the_table_says() {
         &[(1, &[0]), (4, &[0; 12])],
     );
 
-    let current = words_of(&extended(&ZERO, &[0x44; 48]));
-    let journey = extended(&old(register(3)), &[0x44; 48]);
+    let both = |from: &Digest| extended(&extended(from, &[0x44; 48]), &[0x55; 48]);
+    let current = words_of(&both(&ZERO));
+    let journey = both(&old(register(3)));
     let cumulative = words_of(&extended(&old(node(5) + 20), &journey));
     let journey = words_of(&journey);
     has_row(
@@ -495,7 +490,7 @@ fn every_store_goes_where_the_table_says() {
         &[
             (register(2), &current),
             (register(3), &journey),
-            (4, &[0x5555_5555; 12]),
+            (4, &[0x6666_6666; 12]),
             (node(5) + 8, &journey),
             (node(5) + 20, &cumulative),
         ],
@@ -623,10 +618,7 @@ fn the_operations_of_the_running_digest() {
 
 #[test]
 fn nothing_else_touches_the_running_digest() {
-    let boot = BootBytes {
-        digest: vec![1; 48],
-        secret: vec![2; 48],
-    };
+    let boot = BootBytes::from(BOOTED_WITH);
     let feed = |slice: &[u8]| Op::Feed(slice.to_vec());
     let mut player = Player::new(ENGINE);
     let others = [

@@ -1,12 +1,14 @@
 //! What the first scripts reach, and that the campaign tells.
 
 use reference::book::wrong::BOOKS;
-use reference::engine::Engine;
+use reference::boots::Inputs;
+use reference::engine::{Engine, Paper};
 use reference::generate::{cuts, fixed_inputs, program_input, script};
 use reference::layout::*;
+use reference::memory::Memory;
 use reference::player::{Player, Seen, NONE_IN_HAND};
-use reference::script::{Op, Reader, INPUT_BYTES, LENT_WORDS, LETTERS};
-use reference::sha384::BLOCK_BYTES;
+use reference::script::{BootBytes, Op, Reader, INPUT_BYTES, LENT_WORDS, LETTERS};
+use reference::sha384::{BLOCK_BYTES, DIGEST_BYTES};
 use reference::wrong::{caught, GROUPS};
 use std::collections::BTreeSet;
 
@@ -176,6 +178,129 @@ fn the_first_scripts_hold_slices_of_the_greatest_length() {
     assert!(lengths.last() > Some(&(SLICE_BYTES + 1)));
 }
 
+/// What a boot comes to.
+const ENDS: [&str; 7] = [
+    "cold boot",
+    "updated",
+    "kept",
+    "mark not 1",
+    "off",
+    "not well formed",
+    "unlike PCR3",
+];
+
+/// What is told apart of a boot's inputs, and what the boot comes to.
+#[derive(Debug, PartialEq, Eq, PartialOrd, Ord)]
+struct Case {
+    /// Whether runtime digest, manifest digest and secret are fine.
+    fine: [bool; 3],
+    manifest_bytes: usize,
+    equal: bool,
+    zero_runtime: bool,
+    zero_manifest: bool,
+    /// None if the boot is refused, with a right manifest digest too.
+    end: Option<&'static str>,
+}
+
+impl Case {
+    /// A boot on an image, with a verdict if it is an update boot.
+    fn of(image: &[u32], boot: &BootBytes, verdict: Option<u8>) -> Case {
+        let lengths = boot.named().map(|(_, bytes)| bytes.len());
+        let [runtime, manifest, secret] = lengths.map(|length| length == DIGEST_BYTES);
+        Case {
+            fine: [runtime, manifest, secret && boot.secret != ZERO],
+            manifest_bytes: boot.manifest.len(),
+            equal: boot.manifest == boot.runtime,
+            zero_runtime: boot.runtime == ZERO,
+            zero_manifest: boot.manifest == ZERO,
+            end: end(image, boot, verdict),
+        }
+    }
+}
+
+/// What a boot comes to with a right manifest digest.
+fn end(image: &[u32], boot: &BootBytes, verdict: Option<u8>) -> Option<&'static str> {
+    let inputs = Inputs {
+        manifest: &ZERO,
+        ..boot.inputs()
+    };
+    let opened = match verdict {
+        None => Engine::PAPER.open_cold(image, inputs),
+        Some(verdict) => Engine::PAPER.open_update(image, inputs, verdict == 1),
+    };
+    opened.ok().map(|(_, outcome)| match outcome {
+        COLD => "cold boot",
+        UPDATED => "updated",
+        KEPT => "kept",
+        _ => why_disabled(image),
+    })
+}
+
+fn why_disabled(image: &[u32]) -> &'static str {
+    if image[MARK] != DONE {
+        "mark not 1"
+    } else if image[ATTESTATION] != ON {
+        "off"
+    } else if !Paper.well_formed(image) {
+        "not well formed"
+    } else {
+        "unlike PCR3"
+    }
+}
+
+/// The cases of all boots of a list of operations.
+fn boots(ops: impl Iterator<Item = Op>) -> BTreeSet<Case> {
+    let mut player = Player::new(Engine::PAPER);
+    let mut cases = BTreeSet::new();
+    for op in ops {
+        cases.extend(match &op {
+            Op::Cold(boot) => Some(Case::of(player.image(), boot, None)),
+            Op::Update(boot, verdict) => Some(Case::of(player.image(), boot, Some(*verdict))),
+            _ => None,
+        });
+        player.operate(op).expect("the books agree");
+    }
+    cases
+}
+
+/// Every mix of right and wrong inputs; manifest digests of wrong lengths,
+/// whatever the boot would come to; and odd digests that are accepted.
+fn has_every_case(cases: &BTreeSet<Case>) {
+    for which in 0..8 {
+        let fine = [1, 2, 4].map(|bit| which & bit != 0);
+        assert!(cases.iter().any(|case| case.fine == fine), "{fine:?}");
+    }
+    for length in [0, 47, 49] {
+        has_ends(cases, &ENDS, |case| case.manifest_bytes == length);
+    }
+    let accepted = &ENDS[..3];
+    has_ends(cases, accepted, |case| case.fine[1] && case.equal);
+    has_ends(cases, accepted, |case| case.zero_manifest);
+    has_ends(cases, accepted, |case| case.fine[1] && case.zero_runtime);
+}
+
+/// Whether cases of a sort come to all these ends.
+fn has_ends(cases: &BTreeSet<Case>, ends: &[&str], sort: impl Fn(&Case) -> bool) {
+    let of_sort = cases.iter().filter(|case| sort(case));
+    let found: BTreeSet<&str> = of_sort.filter_map(|case| case.end).collect();
+    for end in ends {
+        assert!(found.contains(end), "{end} is not among {found:?}");
+    }
+}
+
+#[test]
+fn the_first_scripts_hold_every_case_of_a_boots_inputs() {
+    let scripts = (0..SEEDS).flat_map(|seed| boots(script(seed).ops.into_iter()));
+    has_every_case(&scripts.collect());
+}
+
+#[test]
+fn an_input_without_a_seed_holds_every_case_of_a_boots_inputs() {
+    let inputs = fixed_inputs();
+    let cases = inputs.iter().flat_map(|input| boots(Reader::new(input)));
+    has_every_case(&cases.collect());
+}
+
 #[test]
 fn the_inputs_without_a_seed_hold_every_case() {
     let mut found = BTreeSet::new();
@@ -201,6 +326,12 @@ fn the_inputs_without_a_seed_hold_every_case() {
         }
     }
     let numbers = [
+        ('C', 0),
+        ('C', 6),
+        ('S', 0),
+        ('S', 9),
+        ('U', 0),
+        ('U', 6),
         ('e', 0),
         ('e', 27),
         ('f', 0),

@@ -2,6 +2,7 @@
 //! here and in `layout`.
 
 use reference::layout::*;
+use reference::mailbox::BOOTED_WITH;
 use reference::sha384::BLOCK_BYTES;
 
 #[test]
@@ -27,6 +28,13 @@ fn a_node() {
 fn the_numbers_of_stores() {
     assert_eq!((STASH_STORES, DISABLING_STORES), (53, 15));
     assert_eq!((UPDATE_STORES, COLD_STORES), (62, 1_217));
+}
+
+#[test]
+fn the_small_programs_boot() {
+    assert_eq!(BOOTED_WITH.runtime, [0x11; 48]);
+    assert_eq!(BOOTED_WITH.manifest, [0x33; 48]);
+    assert_eq!(BOOTED_WITH.secret, [0x22; 48]);
 }
 
 #[test]

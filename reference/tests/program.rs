@@ -54,7 +54,7 @@ fn shown(name: &str) -> String {
     let engine = program(name, &format!("play {name}"));
     let keep = folder(name).to_string_lossy().into_owned();
     let words = [
-        "campaign", "--engine", &engine, "--count", "64", "--keep", &keep,
+        "campaign", "--engine", &engine, "--count", "128", "--keep", &keep,
     ];
     let output = reference(&words);
     let shown = text(&output.stdout);

@@ -1,13 +1,19 @@
 //! Books that are wrong on purpose: the right engine has to disagree with them.
 
 use super::slices::Slices;
-use super::{Book, Event, Look, Opened, State};
-use crate::boots::{Boots, Inputs};
+use super::{Book, Event, Look, Measure, Opened, State};
+use crate::boots::{Boot, Boots, Inputs};
 use crate::engine::Paper;
+use crate::layout::extended;
 use crate::requests::Request;
 
 /// How the books are kept.
 pub trait Keeper {
+    /// The book right after all stores of a cold boot.
+    fn cold(&self, boot: Boot) -> Book {
+        Book::after_cold_boot(boot)
+    }
+
     fn request(&self, book: &mut Book, request: Request) -> Opened {
         book.request(request)
     }
@@ -91,6 +97,16 @@ pub const BOOKS: &[WrongBook] = &[
         "UpdateForgotten",
         "a counted update is left out of the history",
         &Forgotten(|event| matches!(event, Event::Update(_))),
+    ),
+    book(
+        "HistoryWithoutManifest",
+        "a boot in the history extends by the runtime digest only",
+        &Measuring(|before, boot| extended(before, &boot.runtime)),
+    ),
+    book(
+        "HistorySwapped",
+        "a boot in the history extends by the manifest digest first",
+        &Measuring(|before, boot| extended(&extended(before, &boot.manifest), &boot.runtime)),
     ),
     book(
         "BeginForgotten",
@@ -208,9 +224,18 @@ impl Keeper for Forgotten {
         let stored = book.store();
         if book.history.last().is_some_and(self.0) {
             book.history.pop();
-            book.state = State::replay(&book.history);
+            book.state = State::replay(&book.history, book.measure);
         }
         stored
+    }
+}
+
+/// Has another rule for a boot's registers.
+struct Measuring(Measure);
+
+impl Keeper for Measuring {
+    fn cold(&self, boot: Boot) -> Book {
+        Book::measuring(boot, self.0)
     }
 }
 

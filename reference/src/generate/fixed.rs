@@ -1,5 +1,7 @@
-//! Inputs of the running digest that have no seed: they go through every case.
+//! Inputs that have no seed: they go through every case of the running digest
+//! and of a boot's inputs.
 
+use super::fixed_boots::boot_inputs;
 use super::slices::{cuts, BLOCK, MANY, PAST};
 use crate::layout::{SLICE_BYTES, TOTAL_BYTES};
 use crate::random::Random;
@@ -12,7 +14,8 @@ const IN_THREE: usize = BLOCK_BYTES + 2;
 /// The published message of one million letters.
 const MILLION: usize = 1_000_000;
 
-/// The inputs; none is longer than what is used of one, but for the last.
+/// The inputs; none is longer than what is used of one, but for the second
+/// slice to the end.
 pub fn fixed_inputs() -> Vec<Vec<u8>> {
     let mut inputs = vec![
         encode(&in_steps()),
@@ -23,6 +26,7 @@ pub fn fixed_inputs() -> Vec<Vec<u8>> {
     inputs.extend(in_pieces(cuts().into_iter().map(cut_in_two)));
     inputs.extend(in_pieces(pairs().map(cut_in_three)));
     inputs.extend([slice_to_the_end(0), slice_to_the_end(1)]);
+    inputs.push(encode(&boot_inputs()));
     inputs
 }
 

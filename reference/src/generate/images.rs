@@ -197,6 +197,7 @@ impl Maker {
         if self.random.once_in(3) {
             self.push_bad_boot();
         }
+        self.push_bad_manifest();
         if self.random.once_in(3) {
             self.push_refused_request();
         }

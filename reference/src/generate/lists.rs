@@ -271,6 +271,9 @@ impl Maker {
                 self.push(Op::Cut);
             }
         }
+        if self.random.once_in(4) {
+            self.push_bad_manifest();
+        }
         let yes = self.random.once_in(2);
         self.push_update(yes);
         self.push(Op::Left);

@@ -71,9 +71,7 @@ super::engines! {
 ZeroSecretAccepted: "a secret of zeros is accepted"
 [boots: Boots] {
     fn boot(&self, inputs: Inputs) -> Option<Boot> {
-        let digest = inputs.digest.try_into().ok()?;
-        let secret = inputs.secret.try_into().ok()?;
-        Some(Boot { digest, secret })
+        inputs.of_48_bytes()
     }
 }
 
@@ -84,10 +82,10 @@ SecretBytes47: "the test for a zero secret forgets the last byte"
     }
 }
 
-ZeroDigestRefused: "a digest of zeros is refused"
+ZeroRuntimeRefused: "a runtime digest of zeros is refused"
 [boots: Boots] {
     fn boot(&self, inputs: Inputs) -> Option<Boot> {
-        Paper.boot(inputs).filter(|boot| boot.digest != ZERO)
+        Paper.boot(inputs).filter(|boot| boot.runtime != ZERO)
     }
 }
 
@@ -211,7 +209,8 @@ CurrentRegisterExtended: "an update extends PCR2 from its old value"
 [boots: Boots] {
     fn update_work(&self, unit: Unit, root: usize, boot: &Boot) -> Work {
         let mut work = Paper.update_work(unit, root, boot);
-        work.current = words_of(&extended(&unit.bytes_at(register(CURRENT)), &boot.digest));
+        let old = unit.bytes_at(register(CURRENT));
+        work.current = words_of(&extended_by(&old, &self.digests(boot)));
         work
     }
 }
@@ -224,11 +223,11 @@ JourneyFromZero: "an update makes PCR3 from zero"
     }
 }
 
-RootCurrentIsDigest: "an update's root current is the digest"
+RootCurrentIsRuntime: "an update's root current is the runtime digest"
 [boots: Boots] {
     fn update_work(&self, unit: Unit, root: usize, boot: &Boot) -> Work {
         let mut work = Paper.update_work(unit, root, boot);
-        work.set_node(NODE_CURRENT, &boot.digest);
+        work.set_node(NODE_CURRENT, &boot.runtime);
         work
     }
 }

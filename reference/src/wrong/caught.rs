@@ -1,8 +1,9 @@
 //! How many scripts it takes until each wrong engine is caught.
 
-use super::{Wrong, GROUPS};
+use super::{Shown, Wrong, GROUPS};
+use crate::engine::Engine;
 use crate::generate::{program_input, script};
-use crate::mailbox::{mailbox, mailbox_on};
+use crate::mailbox::{mailbox_on, Ran};
 use crate::player::{play, play_unwatched, Player};
 
 /// How a wrong engine fares.
@@ -22,18 +23,25 @@ pub fn caught(count: u64, mut each: impl FnMut(&Caught)) {
     let mut played = Vec::new();
     for group in GROUPS {
         for &wrong in group.engines {
-            each(&if group.of_program {
-                of_program(wrong, count)
-            } else {
-                of_entries(wrong, count, &mut played)
+            each(&match group.shown {
+                Shown::ByScripts => of_entries(wrong, count, &mut played),
+                Shown::ByProgram => {
+                    of_program(wrong, count, |ran, right| ran.output != right.output)
+                }
+                Shown::ByProgramImage => {
+                    of_program(wrong, count, |ran, right| ran.image != right.image)
+                }
             });
         }
     }
 }
 
-fn of_program(wrong: Wrong, count: u64) -> Caught {
+fn of_program(wrong: Wrong, count: u64, shows: fn(&Ran, &Ran) -> bool) -> Caught {
     let mut inputs = (0..count).map(program_input);
-    let differs = |input: Vec<u8>| mailbox_on(wrong.engine, &input) != mailbox(&input);
+    let differs = |input: Vec<u8>| {
+        let right = mailbox_on(Engine::PAPER, &input);
+        shows(&mailbox_on(wrong.engine, &input), &right)
+    };
     Caught {
         wrong,
         scripts: inputs.position(differs).map(|seed| seed as u64 + 1),

@@ -2,6 +2,7 @@
 //! each of them wrote.
 
 use crate::shell::{built_program, run, Feed};
+use reference::boots::Inputs;
 
 /// Operations, and how to read what they write.
 #[derive(Clone, Default)]
@@ -21,22 +22,26 @@ fn put_field(bytes: &mut Vec<u8>, field: &[u8]) {
     bytes.extend(field);
 }
 
+fn put_inputs(bytes: &mut Vec<u8>, inputs: Inputs) {
+    for field in [inputs.runtime, inputs.manifest, inputs.secret] {
+        put_field(bytes, field);
+    }
+}
+
 impl Script {
     pub fn new() -> Self {
         Self::default()
     }
 
-    pub fn cold_boot(mut self, digest: &[u8], secret: &[u8]) -> Self {
+    pub fn cold_boot(mut self, inputs: Inputs) -> Self {
         self.bytes.push(b'C');
-        put_field(&mut self.bytes, digest);
-        put_field(&mut self.bytes, secret);
+        put_inputs(&mut self.bytes, inputs);
         self
     }
 
-    pub fn update_boot(mut self, digest: &[u8], secret: &[u8], verdict: bool) -> Self {
+    pub fn update_boot(mut self, inputs: Inputs, verdict: bool) -> Self {
         self.bytes.push(b'U');
-        put_field(&mut self.bytes, digest);
-        put_field(&mut self.bytes, secret);
+        put_inputs(&mut self.bytes, inputs);
         self.bytes.push(u8::from(verdict));
         self
     }

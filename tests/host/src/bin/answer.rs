@@ -6,6 +6,7 @@
 //! is cut, and an update boot is opened and run to its end.
 
 use host::driver::{Replies, Script};
+use reference::boots::Inputs;
 
 const STASH: u32 = 0x4D45_4153;
 const DISABLE: u32 = 0x4453_424C;
@@ -15,6 +16,23 @@ const ALL: u32 = 10_000;
 
 const FIRST_NODE: usize = 400;
 const NODE_WORDS: usize = 34;
+
+/// The inputs of the unit's boots, of the update, and of the cold boot over both.
+const BOOTED_WITH: Inputs = Inputs {
+    runtime: &[0x11; 48],
+    manifest: &[0x33; 48],
+    secret: &[0x22; 48],
+};
+const UPDATED_WITH: Inputs = Inputs {
+    runtime: &[0x55; 48],
+    manifest: &[0x99; 48],
+    secret: &[0x66; 48],
+};
+const BOOTED_ANEW_WITH: Inputs = Inputs {
+    runtime: &[0x77; 48],
+    manifest: &[0xAA; 48],
+    secret: &[0x88; 48],
+};
 
 struct Kind {
     name: &'static str,
@@ -66,7 +84,7 @@ fn kinds() -> [Kind; 5] {
             name: "an update of the runtime",
             before: |s| s,
             skip: |_| (),
-            open: |s| s.update_boot(&[0x55; 48], &[0x66; 48], true),
+            open: |s| s.update_boot(UPDATED_WITH, true),
             left: |r| r.boot().1,
             shown: |with, without| with.root != without.root,
             counted: "the new runtime is in the list",
@@ -79,7 +97,7 @@ fn kinds() -> [Kind; 5] {
                 r.request();
                 r.stores();
             },
-            open: |s| s.update_boot(&[0x55; 48], &[0x66; 48], true),
+            open: |s| s.update_boot(UPDATED_WITH, true),
             left: |r| r.boot().1,
             shown: |with, _| !with.on && with.secret_zero,
             counted: "attestation was off and stays off",
@@ -89,7 +107,7 @@ fn kinds() -> [Kind; 5] {
             name: "a cold boot",
             before: |s| s,
             skip: |_| (),
-            open: |s| s.cold_boot(&[0x77; 48], &[0x88; 48]),
+            open: |s| s.cold_boot(BOOTED_ANEW_WITH),
             left: |r| r.boot().1,
             shown: |with, without| with.nodes == 1 && with.root != without.root,
             counted: "the old list is erased; a new one has begun, with one entry",
@@ -110,10 +128,8 @@ struct Left {
 }
 
 fn run(kind: &Kind, stores: Option<u32>) -> (u32, Option<Left>) {
-    let digest = [0x11; 48];
-    let secret = [0x22; 48];
     let script = Script::new()
-        .cold_boot(&digest, &secret)
+        .cold_boot(BOOTED_WITH)
         .stores(ALL)
         .request(STASH, &stash_arguments(0x33))
         .stores(ALL);
@@ -122,7 +138,7 @@ fn run(kind: &Kind, stores: Option<u32>) -> (u32, Option<Left>) {
         script = script
             .stores(stores)
             .cut()
-            .update_boot(&digest, &secret, false)
+            .update_boot(BOOTED_WITH, false)
             .stores(ALL)
             .image();
     }
