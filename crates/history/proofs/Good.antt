@@ -9,7 +9,7 @@ use mathlib.Core.Bool.{true, true≢false}
 use mathlib.Core.List.{List, []}
 use mathlib.Core.Option.{Option, none, some, Option·none-ne-some}
 use borrow.Author.Tests.{eq-eqb}
-use lib.Dec.{eqb, lit<}
+use lib.Dec.{eqb}
 use lib.Seq.{getD-set-same, getD-set-other}
 use lib.ListN.{length, getD, set, replicate, length-set, length-replicate, getD-replicate, List·getD-eq-default}
 use Rattle.layout.specs.Sizes.{nodeCount, registerCount, registerWords, registerAt, currentAt, currentRegister, journeyRegister, stashRegister}
@@ -27,7 +27,7 @@ use Rattle.tree.proofs.Ways.{leads-root}
 use Rattle.tree.proofs.Rooted.{placed, placed-same, placed-other, root-used}
 use Rattle.nodes.proofs.Rows.{default-row, retired-row}
 use Rattle.tree.proofs.WellFormed.{Formed, same-refl, rehandled, stashed, formed-true, formed-stashed, top-found, holder-found, free-there}
-use Rattle.opening.specs.Values.{extendedByBoot, childNode, rootNode}
+use Rattle.opening.specs.Values.{childNode, rootNode}
 use Rattle.opening.specs.Tasks.{BootInputs, Measurement, stash, update, coldBoot}
 use Rattle.opening.specs.Openings.{rootMatches}
 use Rattle.history.specs.Ledger.{Chain, Contents, treeAt, changed, renewed, nextChain, imageOf}
@@ -46,15 +46,12 @@ bytes-zeros zero i = omega arith
 bytes-zeros (suc n) zero = omega arith
 bytes-zeros (suc n) (suc i) = bytes-zeros n i
 
-measure-zeros : Measure (zeros 48)
-measure-zeros = (length-zeros 48, bytes-zeros 48)
-
 -- n registers of 48 bytes
 abbrev Measures : ℕ → List (List ℕ) → Type 0
 Measures n l = (length l ≡ n) × ((i : ℕ) → i < n → Measure (getD l i []))
 
 measures-zero : (n : ℕ) → Measures n (replicate n (zeros 48))
-measures-zero n = (length-replicate n (zeros 48), λ i l. rw (getD-replicate n i (zeros 48) [] l) measure-zeros)
+measures-zero n = (length-replicate n (zeros 48), λ i l. rw (getD-replicate n i (zeros 48) [] l) (length-zeros 48, bytes-zeros 48))
 
 measures-set : (n : ℕ) (l : List (List ℕ)) (k : ℕ) (v : List ℕ) → Measure v → Measures n l → Measures n (set l k v)
 measures-set n l k v m h = (
@@ -190,14 +187,18 @@ module _ (n : ℕ) (first : 0 < n) (journey : List ℕ) where
         ];
       }
 
-pub good-cold : (y : Chain) (b : BootInputs) → Good (nextChain y (coldBoot b))
-unfolding nextChain
-good-cold y b =
+-- PCR2 and PCR3 may begin with any measurement
+good-begun : (z : List ℕ) → Measure z
+    → Good (record {
+      registers = set (set (replicate registerCount (zeros 48)) currentRegister z) journeyRegister z;
+      nodes = set (replicate nodeCount none) 0 (some (rootNode z));
+    })
+good-begun z m =
     record {
       shape =
-          shape-of (nextChain y (coldBoot b))
-          (measures-set registerCount (set (replicate registerCount (zeros 48)) currentRegister z) journeyRegister z (measure-each _ _ measure-zeros)
-          (measures-set registerCount (replicate registerCount (zeros 48)) currentRegister z (measure-each _ _ measure-zeros) (measures-zero registerCount)))
+          shape-of _
+          (measures-set registerCount (set (replicate registerCount (zeros 48)) currentRegister z) journeyRegister z m
+          (measures-set registerCount (replicate registerCount (zeros 48)) currentRegister z m (measures-zero registerCount)))
           (length-cold nodeCount (omega arith) z);
       top = 0;
       holder = 0;
@@ -210,9 +211,10 @@ good-cold y b =
           cumulatives-set (replicate nodeCount none) 0 (some (rootNode z)) (λ i n e. absurd (Option·none-ne-some n (sym (blank-place nodeCount i) ∙ e)))
           (measure-extended (zeros 48) z);
     }
-  where
-    z : List ℕ
-    z = extendedByBoot (zeros 48) b
+
+pub good-cold : (y : Chain) (b : BootInputs) → Good (nextChain y (coldBoot b))
+unfolding nextChain
+good-cold y b = good-begun _ (measure-each _ _ _)
 
 -- ---- root and holder, where the searches find them
 
@@ -328,15 +330,18 @@ module _ (x : Chain) (m : Measurement) (g : Good x) (room : lowestFree nodeCount
 
 -- ---- an update boot
 
-pub good-update : (x : Chain) (b : BootInputs) → Good x → Good (nextChain x (update b))
-unfolding nextChain
-good-update x b g =
+-- PCR2 and PCR3 may become any measurements, where the root's current measurement becomes the new PCR3
+good-renewed : (x : Chain) (c j : List ℕ) → Measure c → Measure j → Good x
+    → Good (record {
+      registers = set (set (x .registers) currentRegister c) journeyRegister j;
+      nodes = set (x .nodes) (rootIn nodeCount (treeAt x)) (changed (renewed j) (getD (x .nodes) (rootIn nodeCount (treeAt x)) none));
+    })
+good-renewed x c j mc mj g =
     record {
       shape =
-          shape-of (nextChain x (update b))
-          (measures-set registerCount (set (x .registers) currentRegister c) journeyRegister j
-          (measure-each _ _ (measures-of x (g .shape) .1 journeyRegister (lit< tt)))
-          (measures-set registerCount (x .registers) currentRegister c (measure-each _ _ measure-zeros) (measures-of x (g .shape))))
+          shape-of _
+          (measures-set registerCount (set (x .registers) currentRegister c) journeyRegister j mj
+          (measures-set registerCount (x .registers) currentRegister c mc (measures-of x (g .shape))))
           (length-set (x .nodes) r new ∙ g .shape .nodes);
       top = g .top;
       holder = g .holder;
@@ -348,17 +353,11 @@ good-update x b g =
           (rw length-set (omega (arith, g .shape .registers))));
       cumulatives =
           cumulatives-set (x .nodes) r new (g .cumulatives)
-          (measure-changed (renewed j) (getD (x .nodes) r none) (λ n e. measure-extended (n .cumulative) j));
+          (measure-changed (renewed j) (getD (x .nodes) r none) (λ n e. measure-extended _ _));
     }
   where
     r : ℕ
     r = rootIn nodeCount (treeAt x)
-
-    c : List ℕ
-    c = extendedByBoot (zeros 48) b
-
-    j : List ℕ
-    j = extendedByBoot (getD (x .registers) journeyRegister []) b
 
     new : Option Node
     new = changed (renewed j) (getD (x .nodes) r none)
@@ -372,6 +371,10 @@ good-update x b g =
         go : (s : Option Node) → placeOf (changed (renewed j) s) ≡ placeOf s
         go none = refl
         go (some n) = refl
+
+pub good-update : (x : Chain) (b : BootInputs) → Good x → Good (nextChain x (update b))
+unfolding nextChain
+good-update x b g = good-renewed x _ _ (measure-each _ _ _) (measure-each _ _ _) g
 
 -- ---- its image
 

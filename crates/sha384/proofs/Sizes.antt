@@ -55,11 +55,11 @@ Measure x = (length x ≡ 48) × Bytes x
 pub measure-extended : (x d : List ℕ) → Measure (extended x d)
 measure-extended x d = (length-extended x d, bytes-extended x d)
 
--- extended by each of a list, however long, it stays one
-pub measure-each : (x : List ℕ) (ds : List (List ℕ)) → Measure x → Measure (extendedByEach x ds)
+-- x extended by each of a list is one, however long the list and whatever x; only an empty list leaves x as it is
+pub measure-each : (x d : List ℕ) (ds : List (List ℕ)) → Measure (extendedByEach x (d ∷ ds))
 unfolding extendedByEach
-measure-each x [] h = h
-measure-each x (d ∷ ds) h = measure-each (extended x d) ds (measure-extended x d)
+measure-each x d [] = measure-extended x d
+measure-each x d (e ∷ ds) = measure-each (extended x d) e ds
 
 -- a message that is not too long gets its digest
 pub digest-of-short : (m : List ℕ) → length m ≤ longest → digestOf m ≡ record { number = 0; bytes = sha384 m }
