@@ -127,14 +127,20 @@ expect 'a build that fails: where the log is' 1 "$(grep -c 'target/build.log say
 
 # ---- the demo
 
-# x extended by d, by the machine's own sha384sum.
-extended() { # X D
-    # shellcheck disable=SC2059
-    printf "$(printf '%s' "$1$2" | sed 's/../\\x&/g')" | sha384sum | cut -d ' ' -f 1
+# x extended by each of the digests that follow, by the machine's own sha384sum.
+extended() { # X D ..
+    local x=$1
+    shift
+    while [ $# -gt 0 ]; do
+        # shellcheck disable=SC2059
+        x=$(printf "$(printf '%s' "$x$1" | sed 's/../\\x&/g')" | sha384sum | cut -d ' ' -f 1)
+        shift
+    done
+    echo "$x"
 }
 of() { printf '%s' "$1" | sha384sum | cut -d ' ' -f 1; }
 zero=$(printf '%096d' 0)
-root_digest=$(extended "$(extended "$zero" "$(of 'runtime 1')")" "$(of 'runtime 2')")
+root_digest=$(extended "$zero" "$(of 'runtime 1')" "$(of 'manifest 1')" "$(of 'runtime 2')" "$(of 'manifest 2')")
 
 # The demo's tree of that many programs.
 tree() { # COUNT
