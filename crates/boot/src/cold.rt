@@ -3,6 +3,7 @@ ghost use mathlib.Core.Path.{_≡_};
 ghost use Rattle.opening.specs.Tasks.{bootOf};
 ghost use Rattle.opening.specs.Works.{coldValues};
 ghost use Rattle.opening.specs.Openings.{bootNumber, outcomeIn, openColdBoot, coldBooted};
+ghost use Rattle.boot.specs.Given.{given};
 use crate::inputs::Inputs;
 use crate::inputs::extend_by_boot;
 use crate::inputs::inputs_of;
@@ -28,7 +29,7 @@ use table::Kind;
 
 // The words that a cold boot will store.
 fn cold_values(x: Inputs) -> Values
-    ensures { λ r. ⌜ r ≡ coldValues (bootOf (x .runtime) (x .manifest) (x .secret)) ⌝ }
+    ensures { λ r. ⌜ r ≡ coldValues (given x) ⌝ }
 {
     let zero = [0u8; 48];
     let journey = extend_by_boot(zero, x);

@@ -12,6 +12,7 @@ ghost use Rattle.tree.specs.Nodes.{treeIn, cumulativeIn};
 ghost use Rattle.opening.specs.Tasks.{bootOf, update};
 ghost use Rattle.opening.specs.Works.{workAt, updateValues};
 ghost use Rattle.opening.specs.Openings.{bootNumber, outcomeIn, rootMatches, intact, openUpdateBoot};
+ghost use Rattle.boot.specs.Given.{given};
 use crate::inputs::Inputs;
 use crate::inputs::extend_by_boot;
 use crate::inputs::inputs_of;
@@ -85,7 +86,7 @@ fn root_row(image: &[u32], root: usize, journey: [u8; 48]) -> [u32; NODE_WORDS]
 // The words that an update will store.
 fn update_values(image: &[u32], root: usize, x: Inputs) -> Values
     requires { ⌜ (root ≤ nodeCount) × (root ≡ rootIn nodeCount (treeIn (now image))) ⌝ }
-    ensures { λ r. ⌜ r ≡ updateValues (bootOf (x .runtime) (x .manifest) (x .secret)) (now (image .entry)) ⌝ }
+    ensures { λ r. ⌜ r ≡ updateValues (given x) (now (image .entry)) ⌝ }
 {
     let current = extend_by_boot([0u8; 48], x);
     let journey = extend_by_boot(bytes_in(image, PCR3_AT), x);
@@ -104,7 +105,7 @@ fn update_values(image: &[u32], root: usize, x: Inputs) -> Values
 
 // An update, by ROM's verdict.
 fn updated(image: &[u32], x: Inputs) -> Booted
-    ensures { λ r. ⌜ r ≡ record { work = workAt (now (image .entry)) (update (bootOf (x .runtime) (x .manifest) (x .secret))) []; status = BootStatus.Ready Outcome.Updated } ⌝ }
+    ensures { λ r. ⌜ r ≡ record { work = workAt (now (image .entry)) (update (given x)) []; status = BootStatus.Ready Outcome.Updated } ⌝ }
 {
     let root = root_index(image);
     let values = update_values(image, root, x);
