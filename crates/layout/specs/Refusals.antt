@@ -29,7 +29,7 @@ wrongTable = 5
 abbrev pub badSignature : ℕ
 badSignature = 0x42534947
 
--- "6 digest or secret not 48 bytes, or secret all zero"
+-- "6 digest or secret not 48 bytes, or secret all zero"; the manifest digest likewise (document 02, §2)
 abbrev pub wrongInputs : ℕ
 wrongInputs = 6
 
