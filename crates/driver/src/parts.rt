@@ -16,7 +16,8 @@ use crate::state::done;
 use machine::InHand;
 use slices::little_endian::read32;
 use table::Kind;
-use table::StashAt;
+use table::coding::decode;
+use table::coding::encode;
 use work::Work;
 
 // Words of the input into the front of the memory.
@@ -59,27 +60,18 @@ fn put_left(hand: InHand) -> bool {
     put_count(work.left())
 }
 
-// A kind with another first index, where it has one: a stash's node, an update's root.
+// A kind with another first index, where it has one: a stash's node, an update's root, an extension's register.
 fn with_first(kind: Kind, value: usize) -> Kind {
-    match kind {
-        Kind::Stash(at) => Kind::Stash(StashAt {
-            node: value,
-            holder: at.holder,
-        }),
-        Kind::Update(_) => Kind::Update(value),
-        _ => kind,
-    }
+    let mut coded = encode(kind);
+    coded.first = value;
+    decode(coded)
 }
 
 // A kind with another second index, where it has one: a stash's old holder.
 fn with_second(kind: Kind, value: usize) -> Kind {
-    match kind {
-        Kind::Stash(at) => Kind::Stash(StashAt {
-            node: at.node,
-            holder: value,
-        }),
-        _ => kind,
-    }
+    let mut coded = encode(kind);
+    coded.second = value;
+    decode(coded)
 }
 
 // A work with another kind.

@@ -1,6 +1,6 @@
 -- A work written as words and read back is the same work: the two words of a number give it back, a part of the row is its field, and bytes
 -- packed four to a word are unpacked. It is true of every work within the types of its fields. Assumes nothing.
-use Prim.Native.Nat.{ℕ, _+_, _-_, _/_, _%_, _≤_, _<_}
+use Prim.Native.Nat.{ℕ, _+_, _-_, _/_, _%_, _<_}
 use mathlib.Core.Path.{_≡_, refl, sym, ap, _∙_}
 use mathlib.Core.List.{List, _++_}
 use native.Mathlib.Omega.{arith}
@@ -10,30 +10,18 @@ use Rattle.layout.specs.Words.{part, byteOf, wordsAt}
 use Rattle.layout.proofs.Tab.{tab-is}
 use Rattle.layout.proofs.Packing.{length-words, getD-bytes, bytes-words}
 use Rattle.table.specs.declared.Kind.{Kind}
-use Rattle.table.specs.declared.Kind.the-variants.{Nothing, Disabling, Stash, Update, ColdBoot}
+use Rattle.table.specs.Coding.{codedOf}
+use Rattle.table.proofs.ByKind.{kind-back, coded-kind}
 use Rattle.work.specs.declared.Work.{Work}
-use Rattle.flat.specs.Flat.{registerWord, journeyWord, nodeWord, secretWord, answerWord, answerWords, lowOf, highOf, joinedOf, kindNumber, firstIndex, secondIndex, headOf, PartsLong, rowOf, workWords, kindOf, positionOf, answerBytes, workOf}
+use Rattle.flat.specs.Flat.{registerWord, journeyWord, nodeWord, secretWord, answerWord, answerWords, lowOf, highOf, joinedOf, headOf, PartsLong, rowOf, workWords, positionOf, answerBytes, workOf}
 use Rattle.flat.proofs.Rows.{From, part-here, row-register, row-journey, row-node, row-secret, row-answer}
 
 pub joined-back : (n : ℕ) → joinedOf (lowOf n) (highOf n) ≡ n
 joined-back n = omega arith
 
-kind-back : (k : Kind)
-    → kindOf (kindNumber k) (joinedOf (lowOf (firstIndex k)) (highOf (firstIndex k))) (joinedOf (lowOf (secondIndex k)) (highOf (secondIndex k))) ≡ k
-unfolding kindOf kindNumber firstIndex secondIndex
-kind-back Nothing = refl
-kind-back Disabling = refl
-kind-back (Stash at) = rw (joined-back (at .node), joined-back (at .holder))
-kind-back (Update root) = rw (joined-back root)
-kind-back ColdBoot = refl
-
-position-back : (k : Kind) (p : ℕ) → positionOf (kindNumber k) p ≡ p
-unfolding positionOf kindNumber
-position-back Nothing p = refl
-position-back Disabling p = refl
-position-back (Stash at) p = refl
-position-back (Update root) p = refl
-position-back ColdBoot p = refl
+position-back : (k : Kind) (p : ℕ) → positionOf (codedOf k .number) p ≡ p
+unfolding positionOf
+position-back k p = rw (coded-kind k)
 
 -- a work within the types of its fields: lengths, and bytes below 256
 pub record Typed (w : Work) : Type 0 where
@@ -78,17 +66,17 @@ module _ (w : Work) (t : Typed w) where
       ∙ sym (getD-bytes answerMax (wordsAt answerWords (w .answer) 0) i b)
       ∙ ap (λ (l : List ℕ). getD l i 0) (bytes-words answerWords (w .answer) (t .answer-long) (t .bytes-small)))
 
-  at0 : getD (workWords w) 0 0 ≡ kindNumber (w .kind)
+  at0 : getD (workWords w) 0 0 ≡ codedOf (w .kind) .number
   unfolding workWords rowOf headOf
   at0 = refl
 
-  at1 : joinedOf (getD (workWords w) 1 0) (getD (workWords w) 2 0) ≡ joinedOf (lowOf (firstIndex (w .kind))) (highOf (firstIndex (w .kind)))
+  at1 : joinedOf (getD (workWords w) 1 0) (getD (workWords w) 2 0) ≡ codedOf (w .kind) .first
   unfolding workWords rowOf headOf
-  at1 = refl
+  at1 = joined-back (codedOf (w .kind) .first)
 
-  at3 : joinedOf (getD (workWords w) 3 0) (getD (workWords w) 4 0) ≡ joinedOf (lowOf (secondIndex (w .kind))) (highOf (secondIndex (w .kind)))
+  at3 : joinedOf (getD (workWords w) 3 0) (getD (workWords w) 4 0) ≡ codedOf (w .kind) .second
   unfolding workWords rowOf headOf
-  at3 = refl
+  at3 = joined-back (codedOf (w .kind) .second)
 
   at5 : joinedOf (getD (workWords w) 5 0) (getD (workWords w) 6 0) ≡ w .position
   unfolding workWords rowOf headOf

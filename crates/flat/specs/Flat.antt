@@ -5,11 +5,9 @@ use mathlib.Core.Bool.{cond}
 use mathlib.Core.Path.{_≡_}
 use mathlib.Core.List.{List, [], _∷_, _++_}
 use lib.ListN.{length, getD}
-use lib.Dec.{ltb, eqb}
 use Rattle.layout.specs.Sizes.{registerWords, nodeWords, answerMax}
 use Rattle.layout.specs.Words.{tab, zeros, byteOf, part, wordsAt}
-use Rattle.table.specs.declared.Kind.{Kind}
-use Rattle.table.specs.declared.Kind.the-variants.{Nothing, Disabling, Stash, Update, ColdBoot}
+use Rattle.table.specs.Coding.{codedAs, codedOf, isKind, kindOf}
 use Rattle.work.specs.declared.Work.{Work}
 
 -- ---- where each field stands
@@ -48,35 +46,13 @@ lowOf n = n % 4294967296
 abbrev pub highOf : ℕ → ℕ
 highOf n = n / 4294967296
 
-unfoldable pub kindNumber : Kind → ℕ
-kindNumber Nothing = 0
-kindNumber Disabling = 1
-kindNumber (Stash at) = 2
-kindNumber (Update root) = 3
-kindNumber ColdBoot = 4
-
--- an index that a kind does not have is 0
-unfoldable pub firstIndex : Kind → ℕ
-firstIndex Nothing = 0
-firstIndex Disabling = 0
-firstIndex (Stash at) = at .node
-firstIndex (Update root) = root
-firstIndex ColdBoot = 0
-
-unfoldable pub secondIndex : Kind → ℕ
-secondIndex Nothing = 0
-secondIndex Disabling = 0
-secondIndex (Stash at) = at .holder
-secondIndex (Update root) = 0
-secondIndex ColdBoot = 0
-
 unfoldable pub headOf : Work → List ℕ
 headOf w =
-    kindNumber (w .kind)
-    ∷ lowOf (firstIndex (w .kind))
-    ∷ highOf (firstIndex (w .kind))
-    ∷ lowOf (secondIndex (w .kind))
-    ∷ highOf (secondIndex (w .kind))
+    codedOf (w .kind) .number
+    ∷ lowOf (codedOf (w .kind) .first)
+    ∷ highOf (codedOf (w .kind) .first)
+    ∷ lowOf (codedOf (w .kind) .second)
+    ∷ highOf (codedOf (w .kind) .second)
     ∷ lowOf (w .position)
     ∷ highOf (w .position)
     ∷ lowOf (w .«answer_len»)
@@ -112,15 +88,9 @@ joinedOf low high = low + 4294967296 * high
 abbrev pub longAt : List ℕ → ℕ → ℕ
 longAt l at = joinedOf (getD l at 0) (getD l (at + 1) 0)
 
--- a number that is no kind's goes as no stores
-unfoldable pub kindOf : ℕ → ℕ → ℕ → Kind
-kindOf number first second =
-    cond (eqb number 1) Disabling
-    (cond (eqb number 2) (Stash (record { node = first; holder = second })) (cond (eqb number 3) (Update first) (cond (eqb number 4) ColdBoot Nothing)))
-
--- and as past the last of them, so that such a work is not well shaped
+-- a number that is no kind's goes as no stores (`kindOf`) and past the last of them, so that such a work is not well shaped
 unfoldable pub positionOf : ℕ → ℕ → ℕ
-positionOf number position = cond (ltb number 5) position 1
+positionOf number position = cond (isKind number) position 1
 
 unfoldable pub answerBytes : List ℕ → List ℕ
 answerBytes l = tab answerMax (λ k. byteOf (getD l (answerWord + k / 4) 0) (k % 4))
@@ -128,7 +98,7 @@ answerBytes l = tab answerMax (λ k. byteOf (getD l (answerWord + k / 4) 0) (k %
 unfoldable pub workOf : List ℕ → Work
 workOf l =
     record {
-      kind = kindOf (getD l 0 0) (longAt l 1) (longAt l 3);
+      kind = kindOf (codedAs (getD l 0 0) (longAt l 1) (longAt l 3));
       position = positionOf (getD l 0 0) (longAt l 5);
       register = part registerWords l registerWord;
       journey = part registerWords l journeyWord;

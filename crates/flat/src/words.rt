@@ -15,6 +15,7 @@ use layout::REGISTER_WORDS;
 use packing::word;
 use slices::little_endian::read32;
 use table::Kind;
+use table::coding::encode;
 use work::Work;
 
 pub const FIRST_IN: usize = 1;
@@ -86,13 +87,8 @@ fn head(
 fn head_of(kind: Kind, position: usize, answer_len: usize) -> [u32; REGISTER_IN]
     ensures { λ r. ⌜ r ≡ headOf (standing kind position «answer_len») ⌝ }
 {
-    match kind {
-        Kind::Nothing => head(0, 0, 0, position, answer_len),
-        Kind::Disabling => head(1, 0, 0, position, answer_len),
-        Kind::Stash(at) => head(2, at.node, at.holder, position, answer_len),
-        Kind::Update(root) => head(3, root, 0, position, answer_len),
-        Kind::ColdBoot => head(4, 0, 0, position, answer_len),
-    }
+    let coded = encode(kind);
+    head(coded.number, coded.first, coded.second, position, answer_len)
 }
 
 fn packed(answer: &[u8]) -> [u32; ANSWER_WORDS]

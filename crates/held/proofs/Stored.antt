@@ -1,31 +1,30 @@
 -- A store through the words is the store of the work that they are. What a store reads are the parts of that work (`parts`), so number and
 -- image are its store's; the words afterwards differ in the position's two words alone, and are the work that the store hands back
 -- (`store-step`): a work with a store left is of a known kind, whose position is the words' own. Assumes nothing.
-use Prim.Native.Nat.{ℕ, _+_, _-_, _/_, _%_, _≤_, _<_}
+use Prim.Native.Nat.{ℕ, _+_, _/_, _%_, _≤_, _<_}
 use mathlib.Core.Path.{_≡_, refl, sym, ap, _∙_}
 use mathlib.Core.Bool.{Bool, true, false, cond}
 use mathlib.Core.List.{List}
 use native.Mathlib.Omega.{arith}
-use native.Mathlib.Decide.{decLt}
 use lib.Dec.{ltb, eqb}
 use lib.ListN.{length, getD, set, take, drop, length-set}
 use lib.Seq.{getD-set-same, getD-set-other}
-use borrow.Author.Tests.{eq-eqb, ne-eqb, lt-ltb, ltb-true, eqb-true, eqb-false}
+use borrow.Author.Tests.{eq-eqb, ne-eqb, ltb-true, eqb-true, eqb-false}
 use Rattle.layout.specs.Sizes.{registerWords, nodeWords, answerMax, imageWords}
 use Rattle.layout.specs.Words.{part, byteOf}
 use Rattle.layout.proofs.Tab.{tab-is, getD-tab, length-tab}
 use Rattle.layout.proofs.Packing.{length-part, getD-part, part-within}
 use Rattle.table.specs.declared.Kind.{Kind}
-use Rattle.table.specs.declared.Kind.the-variants.{Nothing}
 use Rattle.work.specs.declared.Work.{Work}
 use Rattle.work.specs.declared.Stored.{Stored}
 use Rattle.table.specs.Table.{numberOf}
 use Rattle.work.specs.Entries.{leftOf, moved, storeNumber, storeResult, storeImage}
 use Rattle.work.specs.Parts.{storing}
-use Rattle.table.proofs.Numbers.{number-nothing}
+use Rattle.table.specs.Coding.{codedAs, isKind}
+use Rattle.table.proofs.ByKind.{no-kind}
 use Rattle.work.proofs.Shape.{left-position}
 use Rattle.work.proofs.Parts.{storingOf, number-storing, image-storing}
-use Rattle.flat.specs.Flat.{registerWord, journeyWord, nodeWord, secretWord, answerWord, workSize, positionWord, lowOf, highOf, kindOf, positionOf, answerBytes, workOf}
+use Rattle.flat.specs.Flat.{registerWord, journeyWord, nodeWord, secretWord, answerWord, workSize, lowOf, highOf, longAt, positionOf, answerBytes, workOf}
 use Rattle.flat.specs.Forms.{storeNumberIn, withPosition, storeWords, storeHand, storeImageIn}
 use Rattle.flat.proofs.Back.{joined-back}
 
@@ -99,7 +98,7 @@ module _ (l : List ℕ) (h : length l ≡ workSize) (p : ℕ) where
       }
 
   -- of a known kind: the work, at that position
-  position-set : getD l 0 0 < 5 → workOf (withPosition l p) ≡ placed p
+  position-set : isKind (getD l 0 0) ≡ true → workOf (withPosition l p) ≡ placed p
   unfolding workOf positionOf
   position-set k =
       rw (
@@ -112,7 +111,7 @@ module _ (l : List ℕ) (h : length l ≡ workSize) (p : ℕ) where
         other 8 (λ e. omega (arith, e)) (λ e. omega (arith, e)),
         low-word,
         high-word,
-        lt-ltb (getD l 0 0) 5 k,
+        k,
         joined-back p,
         part-kept registerWords registerWord (omega arith),
         part-kept registerWords journeyWord (omega arith),
@@ -123,17 +122,16 @@ module _ (l : List ℕ) (h : length l ≡ workSize) (p : ℕ) where
 
 -- a work with a store left is of a known kind
 module _ (l : List ℕ) where
-  no-kind : (n a b : ℕ) → 5 ≤ n → kindOf n a b ≡ Nothing
-  unfolding kindOf
-  no-kind n a b g =
-      rw (ne-eqb n 1 (λ e. omega (arith, e)), ne-eqb n 2 (λ e. omega (arith, e)), ne-eqb n 3 (λ e. omega (arith, e)), ne-eqb n 4 (λ e. omega (arith, e)))
-
-  no-number : 5 ≤ getD l 0 0 → numberOf (workOf l .kind) ≡ 0
+  no-number : isKind (getD l 0 0) ≡ false → numberOf (workOf l .kind) ≡ 0
   unfolding workOf
-  no-number g = ap numberOf (no-kind (getD l 0 0) _ _ g) ∙ number-nothing
+  no-number = no-kind (codedAs (getD l 0 0) (longAt l 1) (longAt l 3))
 
-  pub known : 0 < leftOf (workOf l) → getD l 0 0 < 5
-  known left = elim (decLt (getD l 0 0) 5) [ yes g ↦ g | no g ↦ absurd (omega (arith, no-number (omega arith), left-position (workOf l) left)) ]
+  pub known : 0 < leftOf (workOf l) → isKind (getD l 0 0) ≡ true
+  known left = by (isKind (getD l 0 0)) refl
+    where
+      by : (b : Bool) → isKind (getD l 0 0) ≡ b → b ≡ true
+      by true e = refl
+      by false e = absurd (omega (arith, no-number e, left-position (workOf l) left))
 
 -- the number and the work of a store, by whether it is made
 made : (w : Work) (image : List ℕ) → eqb (storeNumber w image) 0 ≡ true → storeResult w image ≡ record { number = 0; work = moved w }

@@ -1,7 +1,7 @@
 // The work that any words are: its kind, position, answer and answer's length. What is past the end is 0.
 ghost use mathlib.Core.Path.{_≡_};
 ghost use Prim.Native.Nat.{_<_};
-ghost use Rattle.flat.specs.Flat.{workSize, joinedOf, longAt, kindOf, positionOf, answerBytes, workOf};
+ghost use Rattle.flat.specs.Flat.{workSize, joinedOf, longAt, positionOf, answerBytes, workOf};
 use flat::words::ANSWER_IN;
 use flat::words::FIRST_IN;
 use flat::words::LENGTH_IN;
@@ -11,7 +11,9 @@ use layout::ANSWER_MAX;
 use packing::byte_of;
 use packing::word;
 use table::Kind;
-use table::StashAt;
+use table::coding::Coded;
+use table::coding::decode;
+use table::coding::is_kind;
 
 fn joined(low: u32, high: u32) -> usize
     ensures { λ r. ⌜ r ≡ joinedOf low high ⌝ }
@@ -27,26 +29,11 @@ fn long_in(words: &[u32], at: usize) -> usize
     joined(word(words, at), word(words, at + 1))
 }
 
-fn kind_of(number: u32, first: usize, second: usize) -> Kind
-    ensures { λ r. ⌜ r ≡ kindOf number first second ⌝ }
-{
-    match number {
-        1 => Kind::Disabling,
-        2 => Kind::Stash(StashAt {
-            node: first,
-            holder: second,
-        }),
-        3 => Kind::Update(first),
-        4 => Kind::ColdBoot,
-        _ => Kind::Nothing,
-    }
-}
-
 // A number that is no kind's is past its last store.
 fn position_of(number: u32, position: usize) -> usize
     ensures { λ r. ⌜ r ≡ positionOf number position ⌝ }
 {
-    if number < 5 {
+    if is_kind(number) {
         return position;
     }
     1
@@ -55,11 +42,11 @@ fn position_of(number: u32, position: usize) -> usize
 pub(crate) fn kind_in(words: &[u32]) -> Kind
     ensures { λ r. ⌜ r ≡ workOf (now (words .entry)) .kind ⌝ }
 {
-    kind_of(
-        word(words, 0),
-        long_in(words, FIRST_IN),
-        long_in(words, SECOND_IN),
-    )
+    decode(Coded {
+        number: word(words, 0),
+        first: long_in(words, FIRST_IN),
+        second: long_in(words, SECOND_IN),
+    })
 }
 
 pub(crate) fn position_in(words: &[u32]) -> usize

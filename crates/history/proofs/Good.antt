@@ -1,8 +1,8 @@
 -- What holds of the chain after every history: sizes, a well-formed tree whose root has PCR3 as its current measurement, and cumulative measurements of 48
--- bytes. A cold boot makes it; a stash and an update keep it, by the laws of any well-formed tree. Assumes nothing.
+-- bytes. A cold boot makes it; an extension, a stash and an update keep it, by the laws of any well-formed tree. Assumes nothing.
 use mathlib.Core.Path.{_≡_, refl, sym, ap, _∙_, subst, fun-ext}
 use mathlib.Core.Logic.{_≢_}
-use Prim.Native.Nat.{ℕ, zero, suc, _+_, _-_, _<_}
+use Prim.Native.Nat.{ℕ, zero, suc, _+_, _-_, _≤_, _<_}
 use native.Mathlib.Omega.{arith}
 use native.Mathlib.Decide.{ℕ-discrete, decLt}
 use mathlib.Core.Bool.{true, true≢false}
@@ -12,13 +12,12 @@ use borrow.Author.Tests.{eq-eqb}
 use lib.Dec.{eqb}
 use lib.Seq.{getD-set-same, getD-set-other}
 use lib.ListN.{length, getD, set, replicate, length-set, length-replicate, getD-replicate, List·getD-eq-default}
-use Rattle.layout.specs.Sizes.{nodeCount, registerCount, registerWords, registerAt, currentAt, currentRegister, journeyRegister, stashRegister}
+use Rattle.layout.specs.Sizes.{nodeCount, registerCount, registerWords, registerAt, currentAt, currentRegister, journeyRegister, stashRegister, extendFirst}
 use Rattle.layout.specs.Words.{words48, bytes48, zeros}
 use Rattle.layout.proofs.Blocks.{getD-kept}
 use Rattle.layout.proofs.Bounded.{all-below}
 use Rattle.layout.proofs.Packing.{getD-part, bytes-words}
 use Rattle.layout.proofs.Tab.{length-zeros}
-use Rattle.sha384.specs.Entries.{extended}
 use Rattle.sha384.proofs.Sizes.{Bytes, Measure, measure-extended, measure-each}
 use Rattle.tree.specs.Nodes.{word, treeIn, cumulativeIn}
 use Rattle.tree.specs.Tree.{Place, Tree, defaultWords, sameHandle, isRoot, rootOk, wellFormed, rootIn, nodeWith, lowestFree}
@@ -28,9 +27,9 @@ use Rattle.tree.proofs.Rooted.{placed, placed-same, placed-other, root-used}
 use Rattle.nodes.proofs.Rows.{default-row, retired-row}
 use Rattle.tree.proofs.WellFormed.{Formed, same-refl, rehandled, stashed, formed-true, formed-stashed, top-found, holder-found, free-there}
 use Rattle.opening.specs.Values.{childNode, rootNode}
-use Rattle.opening.specs.Tasks.{BootInputs, Measurement, stash, update, coldBoot}
+use Rattle.opening.specs.Tasks.{BootInputs, Measurement, RegisterExtension, stash, update, coldBoot, extension}
 use Rattle.opening.specs.Openings.{rootMatches}
-use Rattle.history.specs.Ledger.{Chain, Contents, treeAt, changed, renewed, nextChain, imageOf}
+use Rattle.history.specs.Ledger.{Chain, Contents, treeAt, changed, renewed, extendedAt, nextChain, imageOf}
 use Rattle.history.proofs.Encoded.{Shape, register-words, current-at, cumulative-words, encodes, tree-read}
 
 -- the current measurement of a place for a node
@@ -249,8 +248,27 @@ module _ (x : Chain) (g : Good x) where
   pub formed-good : wellFormed nodeCount (treeAt x) ≡ true
   formed-good = formed-true nodeCount (omega arith) (treeAt x) (g .top) (g .holder) (g .formed)
 
+-- ---- an extension
+
+-- a register other than PCR3 may become any measurement
+good-register : (x : Chain) (i : ℕ) (v : List ℕ) → Measure v → journeyRegister ≢ i → Good x → Good (record { registers = set (x .registers) i v; nodes = x .nodes })
+good-register x i v m apart g =
+    record {
+      shape = shape-of _ (measures-set registerCount (x .registers) i v m (measures-of x (g .shape))) (g .shape .nodes);
+      top = g .top;
+      holder = g .holder;
+      formed = g .formed;
+      journey = g .journey ∙ sym (getD-set-other (x .registers) i journeyRegister v [] apart);
+      cumulatives = g .cumulatives;
+    }
+
+pub good-extension : (x : Chain) (e : RegisterExtension) → extendFirst ≤ e .register → Good x → Good (nextChain x (extension e))
+unfolding nextChain
+good-extension x e h g = good-register x (e .register) _ (measure-extended _ _) (λ z. omega (arith, z)) g
+
 -- ---- a stash
 
+-- its nodes
 module _ (x : Chain) (m : Measurement) (g : Good x) (room : lowestFree nodeCount (treeAt x) < nodeCount) where
   h : ℕ
   h = nodeWith nodeCount (treeAt x) defaultWords
@@ -305,28 +323,29 @@ module _ (x : Chain) (m : Measurement) (g : Good x) (room : lowestFree nodeCount
           true≢false
           (sym (root-used (treeAt x (g .top)) (g .formed .rooted .root)) ∙ ap (λ (j : ℕ). treeAt x j .used) z ∙ free-there nodeCount (treeAt x) room)
 
-  pub good-stash : Good (nextChain x (stash m))
-  unfolding nextChain h k child old
-  good-stash =
+  good-child : Good (record { registers = x .registers; nodes = set (set (x .nodes) k (some child)) h old })
+  unfolding h k child old
+  good-child =
       record {
         shape =
-            shape-of (nextChain x (stash m))
-            (measures-set registerCount (x .registers) stashRegister (extended (getD (x .registers) stashRegister []) (m .digest))
-            (measure-extended (getD (x .registers) stashRegister []) (m .digest)) (measures-of x (g .shape)))
+            shape-of _ (measures-of x (g .shape))
             (length-set (set (x .nodes) k (some child)) h old ∙ length-set (x .nodes) k (some child) ∙ g .shape .nodes);
         top = g .top;
         holder = k;
         formed = formed-now;
-        journey =
-            current-kept
-            ∙ g .journey
-            ∙ sym (getD-set-other (x .registers) stashRegister journeyRegister (extended (getD (x .registers) stashRegister []) (m .digest)) []
-            (λ (e : _≡_ {A = ℕ} journeyRegister stashRegister). omega arith));
+        journey = current-kept ∙ g .journey;
         cumulatives =
             cumulatives-set (set (x .nodes) k (some child)) h old
             (cumulatives-set (x .nodes) k (some child) (g .cumulatives) (measure-extended (zeros 48) (m .digest)))
             (measure-changed (withHandle retiredHandle) (getD (x .nodes) h none) (λ n e. g .cumulatives h n e));
       }
+
+-- and PCR31
+pub good-stash : (x : Chain) (m : Measurement) → Good x → lowestFree nodeCount (treeAt x) < nodeCount → Good (nextChain x (stash m))
+unfolding nextChain h k child old
+good-stash x m g room =
+    good-child (record { registers = extendedAt (x .registers) stashRegister (m .digest); nodes = x .nodes }) m
+    (good-register x stashRegister _ (measure-extended _ _) (λ (e : _≡_ {A = ℕ} journeyRegister stashRegister). omega arith) g) room
 
 -- ---- an update boot
 

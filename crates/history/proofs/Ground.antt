@@ -7,27 +7,30 @@ use native.Mathlib.Nat.{not-suc-le-zero}
 use native.Mathlib.Omega.{arith}
 use mathlib.Core.Bool.{Bool, true, false, cond, not, _&&_, _||_, or-false, true≢false, false≢true}
 use mathlib.Core.List.{List, [], _∷_, _++_, foldl-append}
-use lib.Dec.{eqb, leb}
-use borrow.Author.Tests.{leb-false}
+use mathlib.Core.Option.{Option}
+use lib.Dec.{eqb}
+use borrow.Author.Tests.{lt-ltb}
 use lib.ListN.{length, getD}
 use Rattle.layout.specs.Sizes.{nodeCount, imageWords, markAt, attestationAt, answerMax}
-use Rattle.layout.specs.Refusals.{unfinished, unknownCode}
-use Rattle.tree.specs.Tree.{Tree, wellFormed, lowestFree}
+use Rattle.layout.specs.Refusals.{unfinished, unknownCode, wrongLength, badChecksum}
+use Rattle.tree.specs.Tree.{Tree, wellFormed}
 use Rattle.tree.specs.Nodes.{treeIn}
 use Rattle.table.specs.Table.{numberOf, indexOk}
 use Rattle.table.specs.declared.Put.{Put}
 use Rattle.work.proofs.Plans.{apply, length-apply}
-use Rattle.opening.specs.Tasks.{Request, BootInputs, Task, noStores, keptBoot, disableCommand, update, Ruling, refused, accepted, View}
-use Rattle.opening.specs.Rules.{refuses, Command, stashMeasurement, commandOf, served, ruled, commandRules, requestRules, updateTask}
+use Rattle.opening.specs.Tasks.{Request, BootInputs, Task, noStores, keptBoot, update, Ruling, refused, accepted, View}
+use Rattle.opening.specs.Rules.{refuses, wrongChecksum, Command, commandOf, served, ruled, commandRules, requestRules, updateTask}
 use Rattle.opening.specs.Works.{factsOf}
-use Rattle.opening.proofs.Decided.{commands, NoneApply, ruled-decided, negated, declined-short, served-short}
+use Rattle.opening.proofs.Decided.{NoneApply, ruled-decided}
+use Rattle.opening.proofs.ByCommand.{Steady, Served, CommandLaw, declined-short, command-law}
+use Rattle.opening.specs.declared.Outcome.{Outcome}
 use Rattle.opening.specs.Openings.{viewIn, intact}
 use Rattle.history.specs.Ledger.{Chain, Contents, treeAt, next, blank, stateOf, imageOf, any, disables, isNone, isDisableCommand, isOff, viewOf}
 use Rattle.history.specs.Demand.{Shut}
 use Rattle.history.proofs.Encoded.{length-image, mark-read, attestation-read}
-use Rattle.history.proofs.Good.{Good, formed-good, good-tree, matches-good}
+use Rattle.history.proofs.Good.{Good, root-below, formed-good, good-tree, matches-good}
 use Rattle.history.proofs.Runs.{planAt, offPlan, off-mark, off-shut}
-use Rattle.history.proofs.Laws.{Allowed, Law, laws}
+use Rattle.history.proofs.Laws.{isCold, Allowed, Law, laws}
 
 -- attestation's word, from "is it off"
 abbrev pub attestationWord : Bool → ℕ
@@ -61,17 +64,12 @@ calm (broken n m) q = q
 abbrev pub storesAt : Chain → Task → ℕ
 storesAt x tk = numberOf (factsOf tk .kind (treeAt x))
 
--- where one was torn: a task that does not look at the nodes, and stores only if it disables
-pub record Steady (tk : Task) : Type 0 where
-  pub same : (a b : Tree) → factsOf tk .kind a ≡ factsOf tk .kind b
-  pub index : (a : Tree) → indexOk (factsOf tk .kind a) ≡ true
-  pub quiet : (a : Tree) → 0 < numberOf (factsOf tk .kind a) → disables tk ≡ true
-
 pub record Fits (h : List Task) (t u : Bool) (tk : Task) : Type 0 where
   -- with nothing to store: nothing is unfinished, or nothing was torn
   pub rest : storesAt (stateOf h .chain) tk ≡ 0 → (u ≡ false) ⊎ (t ≡ false)
+  -- where one was torn it does not look at the nodes, and stores only if it disables
   pub torn : t ≡ true → Steady tk
-  pub allowed : t ≡ false → Allowed (stateOf h .chain) tk
+  pub allowed : t ≡ false → Good (stateOf h .chain) → Allowed (stateOf h .chain) tk
   -- a boot disables only where attestation is off
   pub off : t ≡ false → disables tk ≡ true → (isDisableCommand tk ≡ true) ⊎ (any disables h ≡ true)
 
@@ -84,7 +82,7 @@ kind-same {l} {h} (broken n m) tk f = f .torn refl .same (treeIn l) (treeAt (sta
 
 -- no index of an opened work is beyond the nodes
 pub index-ok : {l : List ℕ} {h : List Task} {t u : Bool} → Ground l h t u → (tk : Task) → Fits h t u tk → indexOk (factsOf tk .kind (treeIn l)) ≡ true
-index-ok {l} {h} (sound g o e) tk f = ap indexOk (kind-same (sound g o e) tk f) ∙ laws tk .index (stateOf h .chain) g (f .allowed refl)
+index-ok {l} {h} (sound g o e) tk f = ap indexOk (kind-same (sound g o e) tk f) ∙ f .allowed refl g .index
 index-ok {l} (locked n m s) tk f = f .torn refl .index (treeIn l)
 index-ok {l} (broken n m) tk f = f .torn refl .index (treeIn l)
 
@@ -141,7 +139,7 @@ finish {l} {h} (sound g o e) tk f p =
     law = laws tk
 
     a : Allowed (stateOf h .chain) tk
-    a = f .allowed refl
+    a = f .allowed refl g
 
     by-command : (x y : Bool) → (x && y) ≡ true → x ≡ true
     by-command true y q = refl
@@ -162,15 +160,22 @@ pub off-rules : (v w : View) (r : Request) → v .done ≡ w .done → v .on ≡
 unfolding ruling
 off-rules v w r p a b =
     (λ i. ruling (record { done = p i; on = a i; nodes = v .nodes }) r)
-    ∙ commands (λ (c : Command). by-command c (off (v .nodes)) ≡ by-command c (off (w .nodes))) refl refl refl refl refl (r .code)
+    ∙ by-command (commandOf (r .code)) (command-law (r .code) .blind r (w .done) (v .nodes) (w .nodes))
     ∙ (λ i. ruling (record { done = w .done; on = sym b i; nodes = w .nodes }) r)
   where
     off : Tree → View
     off t = record { done = w .done; on = false; nodes = t }
 
-    -- the rules, with the command as a variable
-    by-command : Command → View → Ruling
-    by-command c v = ruled (refuses unfinished (not (v .done)) ∷ refuses unknownCode (not (c .known)) ∷ commandRules c v r) c r
+    -- all rules, from the command's own
+    all : Command → View → Ruling
+    all c v = ruled (refuses unfinished (not (v .done)) ∷ refuses unknownCode (not (c .known)) ∷ commandRules c v r) c r
+
+    by-command : (c : Command) → ruled (c .rules (off (v .nodes)) r) c r ≡ ruled (c .rules (off (w .nodes)) r) c r
+        → all c (off (v .nodes)) ≡ all c (off (w .nodes))
+    by-command c e =
+        ap (λ (x : Ruling). cond (not (w .done)) (refused unfinished)
+        (cond (not (c .known)) (refused unknownCode)
+        (cond (not (c .lengthOk (r .bytes))) (refused wrongLength) (cond (wrongChecksum (r .code) (r .bytes)) (refused badChecksum) x)))) e
 
 -- an unfinished mark refuses every request
 unfinished-rules : (v : View) (r : Request) → v .done ≡ false → ruling v r ≡ refused unfinished
@@ -220,48 +225,33 @@ idle-fits h t =
     record {
       rest = λ e. inl refl;
       torn = λ e. record { same = λ a b. refl; index = λ a. refl; quiet = λ a p. absurd (not-suc-le-zero p) };
-      allowed = λ e. tt;
+      allowed = λ e g. record { index = refl; warm = refl };
       off = λ e q. absurd (false≢true q);
     }
 
-disable-fits : (h : List Task) (t : Bool) → Fits h t false disableCommand
-unfolding indexOk
-disable-fits h t =
+-- the task of a command that nothing refused or declined, by the command's laws
+module _ (h : List Task) (t : Bool) (v : View) (r : Request) (off : t ≡ true → v .on ≡ false) (nodes : v .nodes ≡ treeAt (stateOf h .chain)) where
+  fits-command : NoneApply (commandOf (r .code) .rules v r) → FitsRuling h t false false (served (commandOf (r .code)) r)
+  fits-command n = (
     record {
       rest = λ e. inl refl;
-      torn = λ e. record { same = λ a b. refl; index = λ a. refl; quiet = λ a p. refl };
-      allowed = λ e. tt;
-      off = λ e q. inl refl;
-    }
-
-module _ (h : List Task) (t : Bool) (v : View) (r : Request) (on : v .on ≡ true → t ≡ false) (nodes : v .nodes ≡ treeAt (stateOf h .chain)) where
-  -- the task of a command that nothing refused or declined
-  command-fits : (c : Command) → Type 0
-  command-fits c = NoneApply (c .rules v r) → Fits h t false (c .task r) × (false ≡ isBoot (c .task r))
-
-  stash-fits : command-fits stashMeasurement
-  unfolding command-fits numberOf
-  stash-fits n =
-      let torn = on (negated (v .on) (n .0)) in (
-        record {
-          rest = λ e. inl refl;
-          torn = λ e. absurd (true≢false (sym e ∙ torn));
-          allowed = λ e.
-              (let free : leb nodeCount (lowestFree nodeCount (v .nodes)) ≡ false = n .1 .1 .0 in
-              subst (λ (x : Tree). lowestFree nodeCount x < nodeCount) nodes (omega (arith, leb-false nodeCount (lowestFree nodeCount (v .nodes)) free)));
-          off = λ e q. absurd (false≢true q);
-        },
-        refl,
-      )
-
-  fits-command : NoneApply (commandOf (r .code) .rules v r) → FitsRuling h t false false (served (commandOf (r .code)) r)
-  unfolding command-fits
-  fits-command n =
-      let f = commands command-fits stash-fits (λ e. (disable-fits h t, refl)) (λ e. idle) (λ e. idle) (λ e. idle) (r .code) n in
-      (f .0, served-short (r .code) r, f .1)
+      torn = λ e. s .steady (off e);
+      allowed = λ e g.
+          record { index = subst (λ (x : Tree). indexOk (factsOf tk .kind x) ≡ true) nodes (s .index); warm = ap isCold (s .request) };
+      off = λ e q. inl (rw (q, s .request));
+    },
+    law .short r,
+    sym (ap (λ (o : Option Outcome). not (isNone o)) (s .request)),
+  )
     where
-      idle : Fits h t false noStores × (false ≡ isBoot noStores)
-      idle = (idle-fits h t, refl)
+      tk : Task
+      tk = commandOf (r .code) .task r
+
+      law : CommandLaw (commandOf (r .code))
+      law = command-law (r .code)
+
+      s : Served v tk
+      s = law .serves v r n
 
 pub fits-rule : (h : List Task) (t u : Bool) (r : Request) → FitsRuling h t u false (ruling (viewOf h t u) r)
 unfolding ruling viewOf
@@ -270,7 +260,7 @@ fits-rule h t false r =
     ruled-decided (FitsRuling h t false false) (requestRules (viewOf h t false) r) (commandOf (r .code)) r
     (λ n. tt)
     (λ n. (idle-fits h t, declined-short n, refl))
-    (λ n. fits-command h t (viewOf h t false) r (left-false t (any disables h)) refl (n .1 .1 .1 .1))
+    (λ n. fits-command h t (viewOf h t false) r (λ e. ap (λ (x : Bool). not (x || any disables h)) e) refl (n .1 .1 .1 .1))
 
 -- ---- the update boot decides as the ledger does
 
@@ -306,7 +296,7 @@ fits-boot h t u v b = go (isOff h t) refl v
     kept-torn e = left-false t (any disables h) (ap not e)
 
     -- a boot that disables nothing, while on
-    whole : (tk : Task) → isOff h t ≡ false → Allowed (stateOf h .chain) tk → (disables tk ≡ true → ⊥) → Fits h t u tk
+    whole : (tk : Task) → isOff h t ≡ false → (Good (stateOf h .chain) → Allowed (stateOf h .chain) tk) → (disables tk ≡ true → ⊥) → Fits h t u tk
     whole tk e a n =
         record {
           rest = λ z. inr (kept-torn e);
@@ -320,11 +310,15 @@ fits-boot h t u v b = go (isOff h t) refl v
       record {
         rest = λ z. absurd (omega arith);
         torn = λ q. record { same = λ x y. refl; index = λ x. refl; quiet = λ x p. refl };
-        allowed = λ q. tt;
+        allowed = λ q g. record { index = refl; warm = refl };
         off = λ q z. inr (ap (λ (x : Bool). x || any disables h) (sym q) ∙ e);
       },
       zero-le,
       refl,
     )
-    go false e true = (whole (update b) e tt (λ z. false≢true z), zero-le, refl)
-    go false e false = (whole keptBoot e tt (λ z. false≢true z), zero-le, refl)
+    go false e true = (
+      whole (update b) e (λ g. record { index = rw (lt-ltb _ nodeCount (root-below (stateOf h .chain) g)); warm = refl }) (λ z. false≢true z),
+      zero-le,
+      refl,
+    )
+    go false e false = (whole keptBoot e (λ g. record { index = refl; warm = refl }) (λ z. false≢true z), zero-le, refl)

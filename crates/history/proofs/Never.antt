@@ -4,7 +4,7 @@ use mathlib.Core.Path.{_≡_, refl, sym, ap, _∙_, subst}
 use mathlib.Core.Logic.{_≢_}
 use Prim.Native.Nat.{ℕ}
 use native.Mathlib.Omega.{arith}
-use mathlib.Core.Bool.{Bool, true, false, cond, not, true≢false, false≢true}
+use mathlib.Core.Bool.{Bool, true, false, cond, not, false≢true}
 use mathlib.Core.List.{List, [], _∷_, _++_}
 use mathlib.Core.Option.{Option, none, some}
 use lib.Dec.{ltb}
@@ -20,22 +20,13 @@ use Rattle.history.specs.Ledger.{Job, Ledger, stateOf, isOff, letGo, vie
 use Rattle.history.specs.Demand.{afterColdBoot}
 use Rattle.history.proofs.Good.{formed-good}
 use Rattle.history.proofs.Ground.{Ground, sound, locked, broken, ruling}
-use Rattle.opening.proofs.Decided.{commands, negated}
+use Rattle.opening.proofs.ByCommand.{Not11, No11, command-law}
 use Rattle.history.proofs.Sim.{Related, sim, sim-run, release, rule-torn}
 use Rattle.history.proofs.Demand.{cold-start, store-cases}
 
 abbrev NotRefused11 : Ruling → Type 0
 NotRefused11 (refused n) = n ≢ notWellFormed
 NotRefused11 (accepted t a) = Unit {0}
-
-abbrev Not11 : Verdict → Type 0
-Not11 (refuse n) = n ≢ notWellFormed
-Not11 (decline n) = Unit {0}
-
--- no rule that is reached and applies has the number 11
-abbrev No11 : List Rule → Type 0
-No11 [] = Unit {0}
-No11 (r ∷ rs) = (r .applies ≡ true → Not11 (r .verdict)) × (r .applies ≡ false → No11 rs)
 
 no-11 : (rs : List Rule) (c : Command) (r : Request) → No11 rs → NotRefused11 (ruled rs c r)
 no-11 [] c q a = tt
@@ -48,21 +39,11 @@ no-11 (r ∷ rs) c q a = go (r .applies) (r .verdict) (a .0) (λ e. no-11 rs c q
     go false v n11 on e = on e
 
 module _ (v : View) (r : Request) (formed : v .on ≡ true → wellFormed nodeCount (v .nodes) ≡ true) where
-  own-rules : (code : ℕ) → No11 (commandOf code .rules v r)
-  own-rules code =
-      commands (λ (c : Command). No11 (c .rules v r))
-      (λ e. tt, λ e. (λ q. absurd (true≢false (sym q ∙ ap not (formed (negated (v .on) e)))), λ q. (λ z. tt, λ z. tt)))
-      tt
-      (λ e z. omega arith, λ e. tt)
-      (λ e z. omega arith, λ e. tt)
-      tt
-      code
-
   request-rules : NotRefused11 (ruling v r)
   unfolding ruling
   request-rules =
       no-11 (requestRules v r) (commandOf (r .code)) r
-      (λ e z. omega arith, λ e. (λ q z. omega arith, λ q. (λ p z. omega arith, λ p. (λ s z. omega arith, λ s. own-rules (r .code)))))
+      (λ e z. omega arith, λ e. (λ q z. omega arith, λ q. (λ p z. omega arith, λ p. (λ s z. omega arith, λ s. command-law (r .code) .no-11 v r formed))))
 
 ground-rules : {l : List ℕ} {h : List Task} {t u : Bool} → Ground l h t u → (r : Request) → NotRefused11 (ruling (viewOf h t u) r)
 unfolding viewOf

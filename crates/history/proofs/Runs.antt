@@ -17,13 +17,14 @@ use Rattle.tree.specs.Nodes.{treeIn, cumulativeIn}
 use Rattle.tree.specs.Tree.{defaultWords, rootIn, nodeWith, lowestFree}
 use Rattle.nodes.specs.Record.{Node, retiredHandle, nodeRow, placeRow, measurementsRow, withHandle, withCurrent, withCumulative}
 use Rattle.nodes.proofs.Rows.{length48, length-row, store-handle, store-current, store-cumulative, retired-row, raw-current, raw-cumulative}
-use Rattle.table.specs.Table.{put, Run, one, fill, copy, stashRuns, disablingRuns, updateRuns, coldRuns, numberOf}
+use Rattle.table.specs.Table.{put, Run, one, fill, copy, stashRuns, disablingRuns, updateRuns, coldRuns, extensionRuns, numberOf}
 use Rattle.work.specs.Entries.{runsOf}
 use Rattle.making.specs.Made.{workWith}
 use Rattle.table.specs.declared.Put.{Put}
-use Rattle.work.proofs.Plans.{apply, storesIn, EveryRun, every-stores, every-at, plan, length-plan, run-one, run-zeros, run-fill, run-copy, run-part}
+use Rattle.table.proofs.ByKind.{EveryRun}
+use Rattle.work.proofs.Plans.{apply, storesIn, every-stores, every-at, plan, length-plan, run-one, run-zeros, run-fill, run-copy, run-part}
 use Rattle.opening.specs.Values.{extendedByBoot, childNode, rootNode}
-use Rattle.opening.specs.Tasks.{BootInputs, Measurement, Task, disableCommand, disablingBoot, stash, update, coldBoot}
+use Rattle.opening.specs.Tasks.{BootInputs, Measurement, RegisterExtension, Task, disableCommand, disablingBoot, stash, update, coldBoot, extension}
 use Rattle.opening.specs.Works.{factsOf, workAt}
 use Rattle.history.specs.Ledger.{Chain, Contents, treeAt, changed, renewed, nextChain, next, registerRows, nodeRows, imageOf}
 use Rattle.history.specs.Demand.{Shut}
@@ -265,6 +266,29 @@ module _ (att : ℕ) (x : Contents) (g : Good (x .chain)) (m : Measurement) wher
           ∙ ap (sets (nodeRow n) handleAt) (sym retired-row)
           ∙ store-handle n retiredHandle
           ∙ ap (λ (s : Option Node). placeRow (changed (withHandle retiredHandle) s)) (sym (holder-node (x .chain) g .1))
+
+-- ---- an extension
+
+module _ (att : ℕ) (x : Contents) (g : Good (x .chain)) (e : RegisterExtension) (within : e .register < registerCount) where
+  value : List ℕ
+  value = extended (getD (x .chain .registers) (e .register) []) (e .digest)
+
+  extensionRow : List Run
+  extensionRow = extensionRuns (e .register) (words48 value)
+
+  extension-plan : planAt (imageOf 1 att x) (extension e) ≡ storesIn extensionRow
+  unfolding planAt plan runsOf workAt workWith extensionRow value
+  extension-plan =
+      let r = register-read 1 att x (g .shape) (e .register) within in
+      λ i. storesIn (extensionRuns (e .register) (words48 (extended (r i) (e .digest))))
+
+  pub run-extension : apply (planAt (imageOf 1 att x) (extension e)) (imageOf 1 att x) ≡ imageOf 1 att (next x (extension e))
+  unfolding nextChain extensionRow value
+  run-extension =
+      ap (λ (p : List Put). apply p (imageOf 1 att x)) extension-plan
+      ∙ mark-run 1 att x (drop 1 extensionRow) 0
+      ∙ register-run 0 att x (drop 2 extensionRow) (counted (x .chain) g) (e .register) value within
+      ∙ mark-run 0 att (withRegister x (e .register) value) [] 1
 
 -- ---- an update
 

@@ -14,7 +14,7 @@ use Rattle.tree.specs.Tree.{Tree, defaultWords, rootIn, nodeWith, lowestFree}
 use Rattle.nodes.specs.Record.{Node, retiredHandle, placeRow, withHandle, withCurrent, withCumulative, treeOf}
 use Rattle.table.specs.Table.{numberOf}
 use Rattle.opening.specs.Values.{extendedByBoot, childNode, rootNode}
-use Rattle.opening.specs.Tasks.{BootInputs, Task, noStores, keptBoot, disableCommand, disablingBoot, stash, update, coldBoot, Ruling, refused, accepted, View}
+use Rattle.opening.specs.Tasks.{BootInputs, Task, noStores, keptBoot, disableCommand, disablingBoot, stash, update, coldBoot, extension, Ruling, refused, accepted, View}
 use Rattle.opening.specs.Rules.{commandOf, ruled, requestRules, bootRules, bootRuling, updateTask}
 use Rattle.opening.specs.Works.{factsOf}
 use Rattle.opening.specs.Openings.{outcomeOf, outcomeNumber}
@@ -45,6 +45,10 @@ changed f (some n) = some (f n)
 abbrev pub renewed : List ℕ → Node → Node
 renewed journey n = withCumulative (extended (n .cumulative) journey) (withCurrent journey n)
 
+-- register i extended by a digest
+abbrev pub extendedAt : List (List ℕ) → ℕ → List ℕ → List (List ℕ)
+extendedAt registers i d = set registers i (extended (getD registers i []) d)
+
 -- what one counted work makes of registers and nodes
 unfoldable pub nextChain : Chain → Task → Chain
 nextChain x noStores = x
@@ -55,7 +59,7 @@ nextChain x disablingBoot = x
 nextChain x (stash m) =
     let holder = nodeWith nodeCount (treeAt x) defaultWords in
     record {
-      registers = set (x .registers) stashRegister (extended (getD (x .registers) stashRegister []) (m .digest));
+      registers = extendedAt (x .registers) stashRegister (m .digest);
       nodes =
           set (set (x .nodes) (lowestFree nodeCount (treeAt x)) (some (childNode holder m))) holder
           (changed (withHandle retiredHandle) (getD (x .nodes) holder none));
@@ -75,6 +79,9 @@ nextChain x (coldBoot b) =
       registers = set (set (replicate registerCount (zeros 48)) currentRegister journey) journeyRegister journey;
       nodes = set (replicate nodeCount none) 0 (some (rootNode journey));
     }
+
+-- extension: its register, and nothing else (document 02, §1)
+nextChain x (extension e) = record { registers = extendedAt (x .registers) (e .register) (e .digest); nodes = x .nodes }
 
 -- and of the secret
 abbrev pub next : Contents → Task → Contents

@@ -5,3 +5,4 @@ pub mod Packing
 pub mod Bounded
 pub mod Blocks
 pub mod Figures
+pub mod Extendable

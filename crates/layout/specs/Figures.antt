@@ -1,6 +1,6 @@
 -- Document 01's figures of the image as numerals: what a change of the geometry edits by hand. Nothing rests on them. Assumes nothing.
 use mathlib.Core.Path.{_≡_}
-use Rattle.layout.specs.Sizes.{nodeCount, nodeWords, registerCount, registerWords, markAt, attestationAt, secretAt, registersAt, nodesAt, imageWords, registerAt, currentRegister, journeyRegister, stashRegister, tagAt, handleAt, handleWords, flagsAt, currentAt, cumulativeAt, typeAt, localityAt, rootMark, rootType, answerMax}
+use Rattle.layout.specs.Sizes.{nodeCount, nodeWords, registerCount, registerWords, markAt, attestationAt, secretAt, registersAt, nodesAt, imageWords, registerAt, currentRegister, journeyRegister, stashRegister, extendFirst, extendLast, tagAt, handleAt, handleWords, flagsAt, currentAt, cumulativeAt, typeAt, localityAt, rootMark, rootType, answerMax}
 
 pub record ImageFigures : Type 0 where
   -- "an image of 1,216 words"
@@ -20,6 +20,10 @@ pub record ImageFigures : Type 0 where
   pub current : registerAt currentRegister ≡ 40
   pub journey : registerAt journeyRegister ≡ 52
   pub stashes : registerAt stashRegister ≡ 388
+  -- "PCR4 to PCR30" (document 02, §1): words 64 to 387
+  pub firstExtended : extendFirst ≡ 4
+  pub lastExtended : extendLast ≡ 30
+  pub extensions : registerAt extendFirst ≡ 64
   -- "offsets within the node"
   pub tag : tagAt ≡ 1
   pub handle : handleAt ≡ 2

@@ -1,5 +1,5 @@
 -- The geometry as one record, to which the code's constants are tied. Assumes nothing.
-use Rattle.layout.specs.Sizes.{nodeCount, nodeWords, registerCount, registerWords, markAt, attestationAt, secretAt, registersAt, nodesAt, imageWords, registerAt, currentRegister, journeyRegister, stashRegister, handleAt, handleWords, flagsAt, currentAt, cumulativeAt, typeAt, localityAt, rootMark, retiredWord, internalFlag, rootType, answerMax}
+use Rattle.layout.specs.Sizes.{nodeCount, nodeWords, registerCount, registerWords, markAt, attestationAt, secretAt, registersAt, nodesAt, imageWords, registerAt, currentRegister, journeyRegister, stashRegister, extendFirst, extendLast, handleAt, handleWords, flagsAt, currentAt, cumulativeAt, typeAt, localityAt, rootMark, retiredWord, internalFlag, rootType, answerMax}
 use Rattle.layout.specs.declared.geometry.Geometry.{Geometry}
 
 abbrev pub geometryOf : Geometry
@@ -18,6 +18,9 @@ geometryOf =
       «pcr2_at» = registerAt currentRegister;
       «pcr3_at» = registerAt journeyRegister;
       «pcr31_at» = registerAt stashRegister;
+      «stash_register» = stashRegister;
+      «extend_first» = extendFirst;
+      «extend_last» = extendLast;
       «handle_at» = handleAt;
       «handle_words» = handleWords;
       «flags_at» = flagsAt;

@@ -49,6 +49,14 @@ noStoreLeft = 9
 abbrev pub notWellFormed : ℕ
 notWellFormed = 11
 
+-- "A register outside 4 to 30" (document 02, §1)
+abbrev pub wrongRegister : ℕ
+wrongRegister = 12
+
+-- "With attestation off", an extension (document 02, §1)
+abbrev pub attestationOff : ℕ
+attestationOff = 13
+
 -- the dpe results: an accepted stash 0, "1 if all 24 nodes are used", "2 if attestation is off"
 abbrev pub dpeAccepted : ℕ
 dpeAccepted = 0

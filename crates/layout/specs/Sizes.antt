@@ -1,6 +1,8 @@
 -- The memory image (document 01, "What the unit holds"). A change of the number of nodes or of the words of a node is a change of
 -- `nodeCount` or `nodeWords` here. Assumes nothing.
 use Prim.Native.Nat.{ℕ, _+_, _*_}
+use mathlib.Core.Bool.{Bool, _&&_}
+use lib.Dec.{leb}
 
 -- "24 measurement nodes, 34 words each"
 abbrev pub nodeCount : ℕ
@@ -57,6 +59,16 @@ journeyRegister = 3
 
 abbrev pub stashRegister : ℕ
 stashRegister = 31
+
+-- "PCR4 to PCR30", those that a request may extend (document 02, §1)
+abbrev pub extendFirst : ℕ
+extendFirst = 4
+
+abbrev pub extendLast : ℕ
+extendLast = 30
+
+unfoldable pub extendable : ℕ → Bool
+extendable r = leb extendFirst r && leb r extendLast
 
 -- "Node words (offsets within the node)": 1 tag; 2 to 6 context handle; 7 flags; 8 to 19 current; 20 to 31 cumulative; 32 type; 33 locality
 abbrev pub tagAt : ℕ

@@ -6,6 +6,8 @@ use crate::ANSWER_MAX;
 use crate::ATTESTATION_AT;
 use crate::CUMULATIVE_AT;
 use crate::CURRENT_AT;
+use crate::EXTEND_FIRST;
+use crate::EXTEND_LAST;
 use crate::FLAGS_AT;
 use crate::HANDLE_AT;
 use crate::HANDLE_WORDS;
@@ -26,6 +28,7 @@ use crate::RETIRED_WORD;
 use crate::ROOT_MARK;
 use crate::ROOT_TYPE;
 use crate::SECRET_AT;
+use crate::STASH_REGISTER;
 use crate::TYPE_AT;
 
 pub struct Geometry {
@@ -42,6 +45,9 @@ pub struct Geometry {
     pub pcr2_at: usize,
     pub pcr3_at: usize,
     pub pcr31_at: usize,
+    pub stash_register: usize,
+    pub extend_first: usize,
+    pub extend_last: usize,
     pub handle_at: usize,
     pub handle_words: usize,
     pub flags_at: usize,
@@ -73,6 +79,9 @@ pub fn constants() -> Geometry
         pcr2_at: PCR2_AT,
         pcr3_at: PCR3_AT,
         pcr31_at: PCR31_AT,
+        stash_register: STASH_REGISTER,
+        extend_first: EXTEND_FIRST,
+        extend_last: EXTEND_LAST,
         handle_at: HANDLE_AT,
         handle_words: HANDLE_WORDS,
         flags_at: FLAGS_AT,

@@ -4,6 +4,7 @@
 // they stand again only in specs/Figures.antt and on the bench cards, on which no law rests.
 pub mod geometry;
 pub mod refusals;
+pub mod registers;
 
 pub const REGISTERS: usize = 32;
 
@@ -26,12 +27,20 @@ pub const NODES_AT: usize = REGISTERS_AT + REGISTERS * REGISTER_WORDS;
 
 pub const IMAGE_WORDS: usize = NODES_AT + NODES * NODE_WORDS;
 
+// The register of stashed measurements.
+pub const STASH_REGISTER: usize = 31;
+
 // The first word of the registers that the core extends: current, journey, stashed measurements.
 pub const PCR2_AT: usize = REGISTERS_AT + 2 * REGISTER_WORDS;
 
 pub const PCR3_AT: usize = REGISTERS_AT + 3 * REGISTER_WORDS;
 
-pub const PCR31_AT: usize = REGISTERS_AT + 31 * REGISTER_WORDS;
+pub const PCR31_AT: usize = REGISTERS_AT + STASH_REGISTER * REGISTER_WORDS;
+
+// The registers that a request may extend.
+pub const EXTEND_FIRST: usize = 4;
+
+pub const EXTEND_LAST: usize = 30;
 
 // The first word of each field of a node, counted within the node.
 pub const HANDLE_AT: usize = 2;

@@ -25,6 +25,10 @@ pub const NO_STORE_LEFT: u32 = 9;
 
 pub const NOT_WELL_FORMED: u32 = 11;
 
+pub const WRONG_REGISTER: u32 = 12;
+
+pub const ATTESTATION_OFF: u32 = 13;
+
 // The dpe results of a stash.
 pub const DPE_ACCEPTED: u32 = 0;
 

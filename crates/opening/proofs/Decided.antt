@@ -1,28 +1,10 @@
--- How a statement about the rules is proved: one case for each command of the table, and three for a list of rules (refused, declined, none applies).
--- And that every answer fits. Assumes nothing.
-use Prim.Native.Nat.{ℕ, _≤_}
+-- How a statement about a list of rules is proved: three cases (refused, declined, none applies). Assumes nothing.
+use Prim.Native.Nat.{ℕ}
 use mathlib.Core.Path.{_≡_, refl, sym}
 use mathlib.Core.Bool.{Bool, true, false, cond, not}
 use mathlib.Core.List.{List, [], _∷_}
-use native.Mathlib.Omega.{arith}
-use lib.Dec.{eqb}
-use lib.ListN.{length, take, drop, length-take}
-use Rattle.layout.specs.Sizes.{answerMax}
-use Rattle.layout.specs.Words.{bytes4}
 use Rattle.opening.specs.Tasks.{Request, Ruling, refused}
-use Rattle.opening.specs.Rules.{Verdict, refuse, decline, Rule, judged, decide, Command, stashMeasurement, disableAttestation, identityKey, verifySignature, unknownCommand, commandOf, stashCode, disableCode, identityCode, verifyCode, answerOf, declined, served, ruled}
-
--- what holds of each command, by the table
-pub commands : (P : Command → Type 0) → P stashMeasurement → P disableAttestation → P identityKey → P verifySignature → P unknownCommand → (code : ℕ)
-    → P (commandOf code)
-commands P s d i v u code = go (eqb code stashCode) (eqb code disableCode) (eqb code identityCode) (eqb code verifyCode)
-  where
-    go : (w x y z : Bool) → P (cond w stashMeasurement (cond x disableAttestation (cond y identityKey (cond z verifySignature unknownCommand))))
-    go true x y z = s
-    go false true y z = d
-    go false false true z = i
-    go false false false true = v
-    go false false false false = u
+use Rattle.opening.specs.Rules.{Verdict, refuse, decline, Rule, judged, decide, Command, declined, served, ruled}
 
 -- no rule of a list applies
 abbrev pub NoneApply : List Rule → Type 0
@@ -49,22 +31,3 @@ ruled-decided P rs c r = decided P rs declined (served c r)
 pub negated : (b : Bool) → not b ≡ false → b ≡ true
 negated true h = refl
 negated false h = sym h
-
--- ---- every answer fits: checksum and status, eight bytes, and at most the two halves of a key
-
-short : (rest : List ℕ) → length rest ≤ 96 → length (answerOf rest) ≤ answerMax
-unfolding answerOf
-short rest h = omega arith
-
-pub declined-short : (n : ℕ) → length (answerOf (bytes4 n)) ≤ answerMax
-declined-short n = short (bytes4 n) (omega arith)
-
-pub served-short : (code : ℕ) (r : Request) → length (answerOf (commandOf code .answer r)) ≤ answerMax
-served-short code r =
-    commands (λ (c : Command). length (answerOf (c .answer r)) ≤ answerMax)
-    (short (bytes4 0) (omega arith))
-    (short [] (omega arith))
-    (short (take 96 (drop 304 (r .handoff))) (omega (arith, length-take 96 (drop 304 (r .handoff)))))
-    (short [] (omega arith))
-    (short [] (omega arith))
-    code

@@ -5,13 +5,13 @@ use mathlib.Core.Bool.{Bool, true, false, cond, not, _&&_}
 use mathlib.Core.List.{List, [], _∷_, _++_}
 use lib.Dec.{eqb, leb}
 use lib.ListN.{length, getD, take, drop}
-use Rattle.layout.specs.Sizes.{nodeCount}
+use Rattle.layout.specs.Sizes.{nodeCount, extendable}
 use Rattle.layout.specs.Words.{le16, le32, bytes4}
 use Rattle.layout.specs.Below.{allBelow}
 use Rattle.layout.specs.Refusals as number
 use Rattle.message.specs.Checksum.{checksumOf}
 use Rattle.tree.specs.Tree.{wellFormed, lowestFree}
-use Rattle.opening.specs.Tasks.{Request, BootInputs, Measurement, Task, noStores, keptBoot, disableCommand, disablingBoot, stash, update, Ruling, refused, accepted, View}
+use Rattle.opening.specs.Tasks.{Request, BootInputs, Measurement, RegisterExtension, Task, noStores, keptBoot, disableCommand, disablingBoot, stash, update, extension, Ruling, refused, accepted, View}
 
 -- ---- lists of rules: "the first that applies wins"
 
@@ -52,6 +52,10 @@ handoffOk h = eqb (length h) 2048 && (eqb (le32 h 0) 0x54484643 && eqb (le16 h 4
 abbrev pub measurementIn : Request → Measurement
 measurementIn r = record { type = le32 (r .bytes) 4; digest = take 48 (drop 8 (r .bytes)); svn = le32 (r .bytes) 56; caller = r .caller }
 
+-- "56 bytes: checksum, register number, digest" (document 02, §1)
+abbrev pub extensionIn : Request → RegisterExtension
+extensionIn r = record { register = le32 (r .bytes) 4; digest = take 48 (drop 8 (r .bytes)) }
+
 -- ---- the table of commands
 
 pub record Command : Type 0 where
@@ -76,7 +80,11 @@ identityCode = 0x49444549
 abbrev pub verifyCode : ℕ
 verifyCode = 0x53494756
 
--- "Request bytes": a stash's, of a request that is its checksum alone (disable, identity key), and a signature's
+-- EXTEND_PCR (002; document 02, §1)
+abbrev pub extendCode : ℕ
+extendCode = 0x50435245
+
+-- "Request bytes": a stash's, of a request that is its checksum alone (disable, identity key), a signature's and an extension's
 abbrev pub stashLength : ℕ
 stashLength = 60
 
@@ -85,6 +93,9 @@ bareLength = 4
 
 abbrev pub verifyLength : ℕ
 verifyLength = 196
+
+abbrev pub extendLength : ℕ
+extendLength = 56
 
 -- stash: declined while off, refused where the nodes are not well formed, declined where no node is free, in that order
 abbrev pub stashMeasurement : Command
@@ -126,6 +137,20 @@ verifySignature =
       answer = λ r. [];
     }
 
+-- 12 for a register outside those that may be extended, "after 12" 13 while off; it does not look at the nodes (document 02, §1)
+abbrev pub extendRegister : Command
+extendRegister =
+    record {
+      known = true;
+      lengthOk = λ b. eqb (length b) extendLength;
+      rules = λ v r.
+          refuses number.wrongRegister (not (extendable (extensionIn r .register)))
+          ∷ refuses number.attestationOff (not (v .on))
+          ∷ [];
+      task = λ r. extension (extensionIn r);
+      answer = λ r. [];
+    }
+
 abbrev pub unknownCommand : Command
 unknownCommand = record { known = false; lengthOk = λ b. false; rules = λ v r. []; task = λ r. noStores; answer = λ r. [] }
 
@@ -134,7 +159,8 @@ commandOf code =
     cond (eqb code stashCode) stashMeasurement
     (cond (eqb code disableCode) disableAttestation
     (cond (eqb code identityCode) identityKey
-    (cond (eqb code verifyCode) verifySignature unknownCommand)))
+    (cond (eqb code verifyCode) verifySignature
+    (cond (eqb code extendCode) extendRegister unknownCommand))))
 
 -- ---- the entries' orders
 

@@ -31,6 +31,11 @@ pub record Measurement : Type 0 where
   pub svn : ℕ
   pub caller : ℕ
 
+-- what an extension (document 02, §1) extends: "register number, digest"
+pub record RegisterExtension : Type 0 where
+  pub register : ℕ
+  pub digest : List ℕ
+
 -- document 01's "work": a piece of work and all its inputs, as they were given
 pub data Task : Type 0 where
   -- a request with nothing to store, and a boot that keeps all
@@ -39,6 +44,7 @@ pub data Task : Type 0 where
   disableCommand disablingBoot : Task
   stash : Measurement → Task
   update coldBoot : BootInputs → Task
+  extension : RegisterExtension → Task
 
 -- what an opening decides: a refusal's number, or a task and the bytes of its answer
 pub data Ruling : Type 0 where

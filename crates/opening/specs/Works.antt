@@ -1,9 +1,10 @@
--- The table of facts of each task, and the work that it is at an image (document 01, "Stash", "Cold boot", "Update boot"). Assumes nothing.
+-- The table of facts of each task, and the work that it is at an image (document 01, "Stash", "Cold boot", "Update boot"; document 02,
+-- §1). Assumes nothing.
 use Prim.Native.Nat.{ℕ}
 use mathlib.Core.Bool.{Bool, true, false}
 use mathlib.Core.List.{List}
 use mathlib.Core.Option.{Option, none, some}
-use Rattle.layout.specs.Sizes.{nodeCount, registerWords, registerAt, journeyRegister, stashRegister}
+use Rattle.layout.specs.Sizes.{nodeCount, nodeWords, registerWords, registerAt, journeyRegister, stashRegister}
 use Rattle.layout.specs.Words.{words48, bytes48, part, zeros}
 use Rattle.sha384.specs.Entries.{extended}
 use Rattle.tree.specs.Tree.{Tree, defaultWords, rootIn, nodeWith, lowestFree}
@@ -11,11 +12,11 @@ use Rattle.tree.specs.Nodes.{treeIn, cumulativeIn}
 use Rattle.nodes.specs.Record.{nodeRow, measurementsRow}
 use Rattle.making.specs.Made.{noValues, workWith}
 use Rattle.table.specs.declared.Kind.{Kind}
-use Rattle.table.specs.declared.Kind.the-variants.{Nothing, Disabling, Stash, Update, ColdBoot}
+use Rattle.table.specs.declared.Kind.the-variants.{Nothing, Disabling, Stash, Update, ColdBoot, Extension}
 use Rattle.work.specs.declared.Work.{Work}
 use Rattle.making.specs.declared.Values.{Values}
 use Rattle.opening.specs.Values.{extendedByBoot, childNode, rootNode}
-use Rattle.opening.specs.Tasks.{BootInputs, Measurement, Task, noStores, keptBoot, disableCommand, disablingBoot, stash, update, coldBoot}
+use Rattle.opening.specs.Tasks.{BootInputs, Measurement, RegisterExtension, Task, noStores, keptBoot, disableCommand, disablingBoot, stash, update, coldBoot, extension}
 use Rattle.opening.specs.declared.Outcome.{Outcome}
 use Rattle.opening.specs.declared.Outcome.the-variants.{Cold, Kept, Updated, Disabled}
 
@@ -25,11 +26,15 @@ use Rattle.opening.specs.declared.Outcome.the-variants.{Cold, Kept, Upda
 unfoldable pub registerIn : List ℕ → ℕ → List ℕ
 registerIn image i = bytes48 (part registerWords image (registerAt i))
 
+-- a register extended by a digest
+abbrev pub registerExtended : List ℕ → ℕ → List ℕ → List ℕ
+registerExtended image i d = words48 (extended (registerIn image i) d)
+
 -- stash: PCR31 extended by the digest, and the new node below the holder of the default handle
 abbrev pub stashValues : Measurement → List ℕ → Values
 stashValues x image =
     record {
-      register = words48 (extended (registerIn image stashRegister) (x .digest));
+      register = registerExtended image stashRegister (x .digest);
       journey = zeros registerWords;
       node = nodeRow (childNode (nodeWith nodeCount (treeIn image) defaultWords) x);
       secret = zeros registerWords;
@@ -51,6 +56,16 @@ abbrev pub coldValues : BootInputs → Values
 coldValues x =
     let journey = extendedByBoot (zeros 48) x in
     record { register = words48 journey; journey = words48 journey; node = nodeRow (rootNode journey); secret = words48 (x .secret) }
+
+-- extension: its register extended by its digest
+abbrev pub extensionValues : RegisterExtension → List ℕ → Values
+extensionValues x image =
+    record {
+      register = registerExtended image (x .register) (x .digest);
+      journey = zeros registerWords;
+      node = zeros nodeWords;
+      secret = zeros registerWords;
+    }
 
 -- ---- one row for each task
 
@@ -78,6 +93,7 @@ factsOf (stash x) =
     row (λ t. Stash (record { node = lowestFree nodeCount t; holder = nodeWith nodeCount t defaultWords })) (stashValues x) (λ s. s) false none
 factsOf (update x) = row (λ t. Update (rootIn nodeCount t)) (updateValues x) (λ s. x .secret) false (some Updated)
 factsOf (coldBoot x) = row (λ t. ColdBoot) (λ m. coldValues x) (λ s. x .secret) false (some Cold)
+factsOf (extension x) = row (λ t. Extension (x .register)) (extensionValues x) (λ s. s) false none
 
 -- the work of a task at an image, with the answer a
 unfoldable pub workAt : List ℕ → Task → List ℕ → Work

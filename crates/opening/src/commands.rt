@@ -7,9 +7,13 @@ pub const IDENTITY_CODE: u32 = 0x49444549;
 
 pub const VERIFY_CODE: u32 = 0x53494756;
 
+pub const EXTEND_CODE: u32 = 0x50435245;
+
 pub const STASH_LENGTH: usize = 60;
 
 // A request that is its checksum alone: disable, identity key.
 pub const BARE_LENGTH: usize = 4;
 
 pub const VERIFY_LENGTH: usize = 196;
+
+pub const EXTEND_LENGTH: usize = 56;

@@ -1,8 +1,10 @@
 // Opening a request (document 01, "Mailbox"): a module for each command.
 mod answer;
 mod disable;
+mod extend;
 mod identity;
 pub mod open;
+mod register;
 mod screen;
 mod stash;
 mod verify;

@@ -3,6 +3,7 @@ ghost use mathlib.Core.Path.{_≡_};
 ghost use Rattle.opening.specs.Tasks.{requestOf};
 ghost use Rattle.opening.specs.Openings.{statusNumber, openRequest};
 use crate::disable::open_disable;
+use crate::extend::open_extend;
 use crate::identity::open_identity;
 use crate::stash::open_stash;
 use crate::verify::open_verify;
@@ -14,6 +15,8 @@ use layout::refusals::WRONG_IMAGE;
 use opening::Opened;
 use opening::commands::BARE_LENGTH;
 use opening::commands::DISABLE_CODE;
+use opening::commands::EXTEND_CODE;
+use opening::commands::EXTEND_LENGTH;
 use opening::commands::IDENTITY_CODE;
 use opening::commands::STASH_CODE;
 use opening::commands::STASH_LENGTH;
@@ -44,6 +47,7 @@ pub fn open_request(
         DISABLE_CODE => return open_disable(image, bytes, BARE_LENGTH),
         IDENTITY_CODE => return open_identity(image, bytes, BARE_LENGTH, handoff),
         VERIFY_CODE => return open_verify(image, bytes, VERIFY_LENGTH, verdict),
+        EXTEND_CODE => return open_extend(image, bytes, EXTEND_LENGTH),
         _ => return refused(UNKNOWN_CODE),
     }
 }

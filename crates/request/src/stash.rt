@@ -4,23 +4,23 @@ ghost use mathlib.Core.Bool.{false};
 ghost use mathlib.Core.List.{[]};
 ghost use Prim.Native.Nat.{_<_, _≤_};
 ghost use lib.ListN.{length};
-ghost use Rattle.layout.specs.Sizes.{imageWords, nodeCount, stashRegister};
-ghost use Rattle.layout.specs.Words.{bytes4, words48};
-ghost use Rattle.sha384.specs.Entries.{extended};
+ghost use Rattle.layout.specs.Sizes.{imageWords, nodeCount};
+ghost use Rattle.layout.specs.Words.{bytes4};
 ghost use Rattle.tree.specs.Tree.{lowestFree, nodeWith, defaultWords};
 ghost use Rattle.tree.specs.Nodes.{treeIn};
 ghost use Rattle.making.specs.Made.{plainWork};
 ghost use Rattle.opening.specs.Tasks.{requestOf, stash};
 ghost use Rattle.opening.specs.Rules.{answerOf, measurementIn, stashMeasurement, stashCode, stashLength};
-ghost use Rattle.opening.specs.Works.{registerIn, workAt, stashValues};
+ghost use Rattle.opening.specs.Works.{workAt, stashValues};
 ghost use Rattle.request.specs.Screen.{commandOpened, screenedOpened};
 use crate::answer::ready_plain;
 use crate::answer::ready_with;
+use crate::register::extended_register;
 use crate::screen::screen;
 use layout::ATTESTATION_AT;
 use layout::NODES;
-use layout::PCR31_AT;
 use layout::REGISTER_WORDS;
+use layout::STASH_REGISTER;
 use layout::refusals::DPE_ACCEPTED;
 use layout::refusals::DPE_FULL;
 use layout::refusals::DPE_OFF;
@@ -31,10 +31,8 @@ use opening::Opened;
 use opening::Status;
 use opening::commands::STASH_CODE;
 use opening::works::refused;
-use packing::bytes_in;
 use packing::four;
 use sha384::digest::extend;
-use slices::little_endian::pack;
 use slices::little_endian::read32;
 use slices::strings::bytes_of;
 use table::Kind;
@@ -48,21 +46,13 @@ const TYPE_FROM: usize = 4;
 
 const DIGEST_FROM: usize = 8;
 
-// PCR31 extended by a digest.
-fn extended_register(image: &[u32], digest: [u8; 48]) -> [u32; REGISTER_WORDS]
-    ensures { λ r. ⌜ r ≡ words48 (extended (registerIn (now (image .entry)) stashRegister) digest) ⌝ }
-{
-    let extended = extend(bytes_in(image, PCR31_AT), digest);
-    pack(&extended, 0)
-}
-
 // The words that a stash will store: PCR31, and the new node below `holder`.
 fn stash_values(image: &[u32], bytes: &[u8], caller: u32, holder: usize) -> Values
     requires { ⌜ (length (now bytes) ≡ stashLength) × (holder ≤ nodeCount) × (holder ≡ nodeWith nodeCount (treeIn (now image)) defaultWords) ⌝ }
     ensures { λ r. ⌜ r ≡ stashValues (measurementIn (requestOf stashCode (now (bytes .entry)) caller [] false)) (now (image .entry)) ⌝ }
 {
     let digest = bytes_of(bytes, DIGEST_FROM);
-    let register = extended_register(image, digest);
+    let register = extended_register(image, STASH_REGISTER, digest);
     let cumulative = extend([0u8; 48], digest);
     let kind = read32(bytes, TYPE_FROM);
     let node = node_row(holder as u16, 0, digest, cumulative, kind, caller);

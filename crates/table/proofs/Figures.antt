@@ -5,4 +5,4 @@ use Rattle.table.specs.Figures.{StoreFigures}
 
 pub store-figures : StoreFigures
 unfolding numberOf
-store-figures = record { stash = λ s. refl; disabling = refl; update = λ r. refl; coldBoot = refl; nothing = refl }
+store-figures = record { stash = λ s. refl; disabling = refl; update = λ r. refl; coldBoot = refl; extension = λ r. refl; nothing = refl }

@@ -1,4 +1,3 @@
 -- Laws that belong to no one function.
-pub mod Numbers
-pub mod Within
+pub mod ByKind
 pub mod Figures

@@ -1,3 +1,4 @@
--- The store table, and its numbers of stores as numerals.
+-- The store table, its numbers of stores as numerals, and a kind of work as three numbers.
 pub mod Table
 pub mod Figures
+pub mod Coding

@@ -4,9 +4,9 @@ use mathlib.Core.Bool.{Bool, true, cond, _&&_}
 use mathlib.Core.List.{List, [], _∷_}
 use lib.ListN.{getD}
 use lib.Dec.{ltb}
-use Rattle.layout.specs.Sizes.{nodeCount, nodeWords, registerCount, registerWords, markAt, attestationAt, secretAt, registerAt, nodeAt, currentRegister, journeyRegister, stashRegister, handleAt, handleWords, currentAt, cumulativeAt, retiredWord}
+use Rattle.layout.specs.Sizes.{nodeCount, nodeWords, registerCount, registerWords, markAt, attestationAt, secretAt, registerAt, nodeAt, currentRegister, journeyRegister, stashRegister, extendable, handleAt, handleWords, currentAt, cumulativeAt, retiredWord}
 use Rattle.table.specs.declared.Kind.{Kind}
-use Rattle.table.specs.declared.Kind.the-variants.{Nothing, Disabling, Stash, Update, ColdBoot}
+use Rattle.table.specs.declared.Kind.the-variants.{Nothing, Disabling, Stash, Update, ColdBoot, Extension}
 use Rattle.table.specs.declared.StashAt.{StashAt}
 use Rattle.table.specs.declared.Put.{Put}
 
@@ -76,6 +76,10 @@ coldRuns register journey node secret =
     ∷ one markAt 1
     ∷ []
 
+-- the row of an extension (document 02, §1): its register
+abbrev pub extensionRuns : ℕ → List ℕ → List Run
+extensionRuns r register = one markAt 0 ∷ copy (registerAt r) registerWords register ∷ one markAt 1 ∷ []
+
 -- the row of a kind, with the prepared words
 abbrev pub runsFor : Kind → List ℕ → List ℕ → List ℕ → List ℕ → List Run
 runsFor Nothing register journey node secret = []
@@ -83,6 +87,7 @@ runsFor Disabling register journey node secret = disablingRuns
 runsFor (Stash s) register journey node secret = stashRuns s register node
 runsFor (Update root) register journey node secret = updateRuns root register journey node secret
 runsFor ColdBoot register journey node secret = coldRuns register journey node secret
+runsFor (Extension r) register journey node secret = extensionRuns r register
 
 -- ---- number, address and value
 
@@ -95,19 +100,20 @@ abbrev pub putFrom : ℕ → List Run → ℕ → Put
 putFrom n [] k = put 0 0
 putFrom n (r ∷ rs) k = cond (ltb k (n + r .count)) (r .store (k - n)) (putFrom (n + r .count) rs k)
 
--- the number of stores of a kind of work: 53, 15, 62, 1,217, or 0 with nothing to store
+-- the number of stores of a kind of work: 53, 15, 62, 1,217, 14, or 0 with nothing to store
 unfoldable pub numberOf : Kind → ℕ
 numberOf k = total (runsFor k [] [] [] [])
 
--- no index of a kind is beyond the nodes
+-- no index of a kind is beyond the nodes, and no register outside those that may be extended
 unfoldable pub indexOk : Kind → Bool
 indexOk Nothing = true
 indexOk Disabling = true
 indexOk (Stash s) = ltb (s .node) nodeCount && ltb (s .holder) nodeCount
 indexOk (Update root) = ltb root nodeCount
 indexOk ColdBoot = true
+indexOk (Extension r) = extendable r
 
--- store k of a kind, with the prepared words; a kind with an index beyond the nodes has none, and neither is there one past the number
+-- store k of a kind, with the prepared words; a kind with an index that is not fine has none, and neither is there one past the number
 unfoldable pub storeAt : Kind → ℕ → List ℕ → List ℕ → List ℕ → List ℕ → Put
 storeAt kind k register journey node secret =
     cond (indexOk kind && ltb k (numberOf kind)) (putFrom 0 (runsFor kind register journey node secret) k) (put 0 0)

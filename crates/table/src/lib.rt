@@ -1,5 +1,6 @@
 // The store table (document 01, "Work, one word at a time"): the kinds of work, how many stores each has,
 // and the word and the value of each store.
+pub mod coding;
 mod puts;
 
 ghost use mathlib.Core.Path.{_≡_};
@@ -9,13 +10,16 @@ ghost use Rattle.layout.specs.Sizes.{imageWords};
 ghost use Rattle.table.specs.Table.{numberOf, indexOk, putFrom, runsFor, storeAt};
 use crate::puts::COLD_STORES;
 use crate::puts::DISABLING_STORES;
+use crate::puts::EXTENSION_STORES;
 use crate::puts::STASH_STORES;
 use crate::puts::UPDATE_STORES;
 use crate::puts::cold_put;
 use crate::puts::disabling_put;
+use crate::puts::extension_put;
 use crate::puts::stash_put;
 use crate::puts::update_put;
 use layout::NODES;
+use layout::registers::may_extend;
 
 // Where a stash stores: the new node, and the node that held the default handle.
 pub struct StashAt {
@@ -23,13 +27,15 @@ pub struct StashAt {
     pub holder: usize,
 }
 
-// An update carries its root's index: a well-formed image's root may be any node.
+// An update carries its root's index: a well-formed image's root may be any node. An extension carries its
+// register.
 pub enum Kind {
     Nothing,
     Disabling,
     Stash(StashAt),
     Update(usize),
     ColdBoot,
+    Extension(usize),
 }
 
 // One store: a word and its value.
@@ -48,10 +54,11 @@ pub fn number(kind: Kind) -> usize
         Kind::Stash(_) => STASH_STORES,
         Kind::Update(_) => UPDATE_STORES,
         Kind::ColdBoot => COLD_STORES,
+        Kind::Extension(_) => EXTENSION_STORES,
     }
 }
 
-// Whether no index of a kind is beyond the nodes.
+// Whether no index of a kind is beyond the nodes, and no register outside those that may be extended.
 pub fn index_ok(kind: Kind) -> bool
     ensures { λ r. ⌜ r ≡ indexOk kind ⌝ }
 {
@@ -61,6 +68,7 @@ pub fn index_ok(kind: Kind) -> bool
         Kind::Stash(at) => at.node < NODES && at.holder < NODES,
         Kind::Update(root) => root < NODES,
         Kind::ColdBoot => true,
+        Kind::Extension(register) => may_extend(register),
     }
 }
 
@@ -87,11 +95,12 @@ fn row_put<'a>(
         Kind::Stash(at) => stash_put(at, register, node, k),
         Kind::Update(root) => update_put(root, register, journey, node, secret, k),
         Kind::ColdBoot => cold_put(register, journey, node, secret, k),
+        Kind::Extension(at) => extension_put(at, register, k),
     }
 }
 
-// Store k of a kind of work; of a kind with an index beyond the nodes, or past its last store, a store
-// that nobody makes.
+// Store k of a kind of work; of a kind with an index that is not fine, or past its last store, a store that
+// nobody makes.
 pub fn put_at<'a>(
     kind: Kind,
     k: usize,

@@ -3,9 +3,9 @@
 // Each function is the table's row from left to right, a test for each field: k below the field's
 // end is a store of that field.
 ghost use mathlib.Core.Path.{_≡_};
-ghost use Prim.Native.Nat.{_<_};
-ghost use Rattle.layout.specs.Sizes.{nodeCount, imageWords};
-ghost use Rattle.table.specs.Table.{total, putFrom, stashRuns, disablingRuns, updateRuns, coldRuns};
+ghost use Prim.Native.Nat.{_≤_, _<_};
+ghost use Rattle.layout.specs.Sizes.{nodeCount, extendLast, imageWords};
+ghost use Rattle.table.specs.Table.{total, putFrom, stashRuns, disablingRuns, updateRuns, coldRuns, extensionRuns};
 use crate::Put;
 use crate::StashAt;
 use layout::ATTESTATION_AT;
@@ -265,6 +265,35 @@ pub(crate) fn cold_put<'a>(
         return Put {
             address: k,
             value: 0,
+        };
+    }
+    Put {
+        address: MARK_AT,
+        value: DONE,
+    }
+}
+
+// Extension: mark 0; the register; mark 1.
+const EXTENSION_REGISTER_END: usize = MARK_END + REGISTER_WORDS;
+
+pub(crate) const EXTENSION_STORES: usize = EXTENSION_REGISTER_END + 1;
+
+pub(crate) fn extension_put<'a>(at: usize, register: &'a [u32], k: usize) -> Put
+    requires { ⌜ at ≤ extendLast ⌝ }
+    requires { ⌜ k < total (extensionRuns at (now register)) ⌝ }
+    ensures { λ r. ⌜ r ≡ putFrom 0 (extensionRuns at (now (register .entry))) k ⌝ }
+    ensures { λ r. ⌜ r .address < imageWords ⌝ }
+{
+    if k < MARK_END {
+        return Put {
+            address: MARK_AT,
+            value: UNFINISHED,
+        };
+    }
+    if k < EXTENSION_REGISTER_END {
+        return Put {
+            address: REGISTERS_AT + REGISTER_WORDS * at + (k - MARK_END),
+            value: word(register, k - MARK_END),
         };
     }
     Put {

@@ -1,6 +1,7 @@
 -- The stores of a work as a list: store by store it is the store table, and run by run it sets words in a row. In the middle of it the mark is 0.
 -- Assumes nothing.
-use mathlib.Core.Path.{_≡_, refl, sym, ap, _∙_}
+use mathlib.Core.Path.{_≡_, refl, sym, ap, _∙_, subst}
+use mathlib.Core.Logic.{_⊎_, inl, inr}
 use Prim.Native.Nat.{ℕ, zero, suc, _+_, _-_, _≤_, _<_}
 use native.Mathlib.Nat.{zero-add, add-zero, le-of-suc-le-suc, not-suc-le-zero}
 use native.Mathlib.Decide.{decLt}
@@ -9,15 +10,14 @@ use mathlib.Core.Bool.{cond}
 use mathlib.Core.List.{List, [], _∷_, _++_, append-assoc}
 use lib.Dec.{ltb}
 use borrow.Author.Tests.{lt-ltb, le-ltb}
-use lib.ListN.{length, getD, set, take, drop, replicate, length-append, length-set, List·getD-append, length-replicate, getD-replicate}
+use lib.ListN.{length, getD, set, take, replicate, length-append, length-set, List·getD-append, length-replicate, getD-replicate}
 use lib.Seq.{sets, getD-append-add, getD-set-same, getD-set-other, take-append-le, take-suc}
 use Rattle.layout.specs.Sizes.{markAt}
 use Rattle.layout.specs.Words.{zeros}
 use Rattle.layout.proofs.Tab.{length-zeros, getD-zeros}
-use Rattle.table.specs.Table.{put, Run, one, fill, copy, copyFrom, disablingRuns, stashRuns, updateRuns, coldRuns, runsFor, total, putFrom, numberOf}
+use Rattle.table.specs.Table.{put, Run, one, fill, copy, copyFrom, total, putFrom, numberOf}
+use Rattle.table.proofs.ByKind.{number-row, EveryRun, PastMark, Bracketed, bracketed}
 use Rattle.work.specs.Entries.{runsOf, putOf}
-use Rattle.table.specs.declared.Kind.{Kind}
-use Rattle.table.specs.declared.Kind.the-variants.{Nothing, Disabling, Stash, Update, ColdBoot}
 use Rattle.table.specs.declared.Put.{Put}
 use Rattle.work.specs.declared.Work.{Work}
 
@@ -93,15 +93,8 @@ unfoldable pub plan : Work → List Put
 plan w = storesIn (runsOf w)
 
 pub length-plan : (w : Work) → length (plan w) ≡ numberOf (w .kind)
-unfolding plan runsOf numberOf
-length-plan w = length-stores (runsOf w) ∙ same (w .kind) (w .register) (w .journey) (w .node) (w .secret)
-  where
-    same : (k : Kind) (register journey node secret : List ℕ) → total (runsFor k register journey node secret) ≡ total (runsFor k [] [] [] [])
-    same Nothing r j n s = refl
-    same Disabling r j n s = refl
-    same (Stash a) r j n s = refl
-    same (Update a) r j n s = refl
-    same ColdBoot r j n s = refl
+unfolding plan runsOf
+length-plan w = length-stores (runsOf w) ∙ number-row (w .kind) (w .register) (w .journey) (w .node) (w .secret)
 
 pub put-plan : (w : Work) → putOf w ≡ getD (plan w) (w .position) (put 0 0)
 unfolding plan putOf
@@ -163,10 +156,6 @@ abbrev pub Every : (Put → Type 0) → List Put → Type 0
 Every P [] = Unit {0}
 Every P (p ∷ ps) = P p × Every P ps
 
-abbrev pub EveryRun : (Put → Type 0) → List Run → Type 0
-EveryRun P [] = Unit {0}
-EveryRun P (r ∷ rs) = ((i : ℕ) → P (r .store i)) × EveryRun P rs
-
 module _ (P : Put → Type 0) where
   every-append : (s t : List Put) → Every P s → Every P t → Every P (s ++ t)
   every-append [] t p q = q
@@ -193,10 +182,6 @@ module _ (P : Put → Type 0) where
   every-at (p ∷ ps) e (suc k) h = every-at ps (e .1) k (le-of-suc-le-suc h)
 
 -- ---- after the first store and before the last the mark is 0
-
--- a store that leaves the mark alone
-abbrev PastMark : Put → Type 0
-PastMark p = markAt < p .address
 
 past-apply : (ps : List Put) (l : List ℕ) → Every PastMark ps → getD (apply ps l) markAt 0 ≡ getD l markAt 0
 past-apply [] l h = refl
@@ -233,20 +218,14 @@ unfolding spread
 marked rs p l zero b u h = absurd (not-suc-le-zero u)
 marked rs p l (suc k) b u h = mid rs p l k b (le-of-suc-le-suc h)
 
--- all runs but the last
-abbrev inner : List Run → List Run
-inner [] = []
-inner (r ∷ []) = []
-inner (r ∷ s ∷ rs) = r ∷ inner (s ∷ rs)
-
-mid-kind : (k : Kind) (r j n s l : List ℕ) (i : ℕ) → markAt < length l → 0 < i → i < length (storesIn (runsFor k r j n s))
-    → getD (apply (take i (storesIn (runsFor k r j n s))) l) markAt 0 ≡ 0
-mid-kind Nothing r j n s l i b u h = absurd (not-suc-le-zero h)
-mid-kind Disabling r j n s l i b u h = marked (inner (drop 1 disablingRuns)) (search arith) l i b u h
-mid-kind (Stash a) r j n s l i b u h = marked (inner (drop 1 (stashRuns a r n))) (search arith) l i b u h
-mid-kind (Update a) r j n s l i b u h = marked (inner (drop 1 (updateRuns a r j n s))) (search arith) l i b u h
-mid-kind ColdBoot r j n s l i b u h = marked (inner (drop 1 (coldRuns r j n s))) (search arith) l i b u h
+-- so of any runs that are none, or between two marks
+mid-runs : (rs : List Run) → (rs ≡ []) ⊎ Bracketed rs → (l : List ℕ) (i : ℕ) → markAt < length l → 0 < i → i < length (storesIn rs)
+    → getD (apply (take i (storesIn rs)) l) markAt 0 ≡ 0
+mid-runs rs (inl e) l i b u h = absurd (not-suc-le-zero (subst (λ (x : List Run). i < length (storesIn x)) e h))
+mid-runs rs (inr k) l i b u h =
+    subst (λ (x : List Run). i < length (storesIn x) → getD (apply (take i (storesIn x)) l) markAt 0 ≡ 0) (sym (k .same))
+    (marked (k .inner) (k .past) l i b u) h
 
 pub mark-mid : (w : Work) (k : ℕ) (l : List ℕ) → 0 < k → k < length (plan w) → markAt < length l → getD (apply (take k (plan w)) l) markAt 0 ≡ 0
 unfolding plan runsOf
-mark-mid w k l u h b = mid-kind (w .kind) (w .register) (w .journey) (w .node) (w .secret) l k b u h
+mark-mid w k l u h b = mid-runs (runsOf w) (bracketed (w .kind) (w .register) (w .journey) (w .node) (w .secret)) l k b u h

@@ -10,7 +10,7 @@ use Rattle.layout.proofs.Cases.{and-left, and-right}
 use Rattle.work.specs.declared.Work.{Work}
 use Rattle.table.specs.Table.{indexOk, numberOf}
 use Rattle.work.specs.Entries.{wellShaped, leftOf, finished}
-use Rattle.table.proofs.Numbers.{number-most}
+use Rattle.table.proofs.ByKind.{number-most}
 
 module _ (w : Work) (shaped : wellShaped w ≡ true) where
   pub shaped-index : indexOk (w .kind) ≡ true

@@ -5,7 +5,7 @@ use mathlib.Core.Path.{sym, _∙_}
 use borrow.Author.Tests.{le-ltb}
 use Rattle.layout.proofs.Cases.{told}
 use Rattle.table.specs.Table.{numberOf, storeAt}
-use Rattle.table.proofs.Within.{store-at}
+use Rattle.table.proofs.ByKind.{store-at}
 use Rattle.table.proofs.put_at.Statement.{statement}
 use Rattle.table.proofs.put_at.Tie as tie
 

@@ -1,6 +1,6 @@
--- `row_put` meets its contract: a kind's row is the one that its arm calls, and what the row requires is `within` of Within. Assumes nothing.
+-- `row_put` meets its contract: a kind's row is the one that its arm calls, and what the row requires is `within` of ByKind. Assumes nothing.
 use Rattle.table.specs.Table.{numberOf}
-use Rattle.table.proofs.Within.{within}
+use Rattle.table.proofs.ByKind.{within}
 use borrow.Author.Needs.{needs}
 use Rattle.table.proofs.row_put.Statement.{statement}
 use Rattle.table.proofs.row_put.Tie as tie
@@ -48,6 +48,16 @@ cold-put-requires c κs =
     let a = c6 in
     rw (c .enum-told3 .given .1) at (within (a .args .kind) (a .args .k) (a .pre .0) (a .pre .1))
 
+enum-known-kind-3 : tie.Need-enum-known-kind-3
+enum-known-kind-3 c = search needs
+
+extension-put-requires : tie.Need-extension-put-requires
+unfolding numberOf
+extension-put-requires c κs =
+    let c7 = c .before .before .before .before .before .before .before in
+    let a = c7 in
+    rw (c .before .kind3 .given .1) at (within (a .args .kind) (a .args .k) (a .pre .0) (a .pre .1))
+
 returns : tie.Need-returns
 returns c = (rw (c .enum-told .given .1), search needs)
 
@@ -63,6 +73,9 @@ returns-4 c = (rw (c .before .before .kind2 .given .1) (c .update-put .ensures .
 returns-5 : tie.Need-returns-5
 returns-5 c = (rw (c .before .enum-told3 .given .1) (c .cold-put .ensures .0), c .cold-put .ensures .1)
 
+returns-6 : tie.Need-returns-6
+returns-6 c = (rw (c .before .before .kind3 .given .1) (c .extension-put .ensures .0), c .extension-put .ensures .1)
+
 pub row-put-spec : {M : Type 1} → statement M
 row-put-spec =
     tie.close
@@ -76,8 +89,11 @@ row-put-spec =
     update-put-requires
     enum-told-3
     cold-put-requires
+    enum-known-kind-3
+    extension-put-requires
     returns
     returns-2
     returns-3
     returns-4
-    returns-5)
+    returns-5
+    returns-6)

@@ -3,9 +3,6 @@ use Rattle.flat.specs.Flat.{workOf}
 use borrow.Author.Needs.{needs}
 use Rattle.held.proofs.reading.kind_in.Statement.{statement}
 use Rattle.held.proofs.reading.kind_in.Tie as tie
-use Rattle.held.proofs.reading.kind_of.Reads as kind-of-reads
-use Rattle.held.proofs.reading.long_in.Reads as long-in-reads
-use Rattle.packing.proofs.word.Reads as word-reads
 
 word-requires : tie.Need-word-requires
 word-requires c κs = tt
@@ -16,13 +13,13 @@ long-in-requires c κs = search needs
 long-in-requires-2 : tie.Need-long-in-requires-2
 long-in-requires-2 c κs = search needs
 
-kind-of-requires : tie.Need-kind-of-requires
-kind-of-requires c κs = tt
+decode-requires : tie.Need-decode-requires
+decode-requires c κs = tt
 
 returns : tie.Need-returns
 unfolding workOf
-returns c = rw (c .kind-of .ensures, c .before .long-in2 .ensures, c .before .before .long-in .ensures, c .before .before .before .word .ensures)
+returns c = rw (c .decode .ensures, c .before .long-in2 .ensures, c .before .before .long-in .ensures, c .before .before .before .word .ensures)
 
 pub kind-in-spec : {M : Type 1} → statement M
 kind-in-spec =
-    tie.close (tie.spec word-requires long-in-requires long-in-requires-2 kind-of-requires returns)
+    tie.close (tie.spec word-requires long-in-requires long-in-requires-2 decode-requires returns)

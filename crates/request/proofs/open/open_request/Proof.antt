@@ -4,7 +4,7 @@ use lib.ListN.{length, getD}
 use borrow.Author.Tests.{eq-eqb, ne-eqb}
 use Rattle.layout.specs.Sizes.{imageWords, markAt}
 use Rattle.opening.specs.Tasks.{requestOf}
-use Rattle.opening.specs.Rules.{stashCode, disableCode, identityCode, verifyCode, commandRuling}
+use Rattle.opening.specs.Rules.{stashCode, disableCode, identityCode, verifyCode, extendCode, commandRuling}
 use Rattle.opening.specs.Openings.{viewIn, openRequest}
 use Rattle.opening.proofs.Told.{opened-told}
 use Rattle.request.specs.Screen.{commandOpened}
@@ -89,22 +89,36 @@ returns-6 c =
     ∙ sym (known (a .image .now) (requestOf verifyCode (a .bytes .now) (a .caller) (a .handoff .now) (a .verdict))
     (c .before .before .before .before .if1 .left) (c .before .before .if2 .left) refl)))
 
+open-extend-requires : tie.Need-open-extend-requires
+open-extend-requires c κs = (c .before .before .before .if1 .left, refl)
+
+returns-7 : tie.Need-returns-7
+unfolding commandOpened commandRuling
+returns-7 c =
+    let a = c .before .before .before .before .before .before .before .before .args in
+    opened-told (c .open-extend .result) (openRequest (a .image .now) (requestOf (a .code) (a .bytes .now) (a .caller) (a .handoff .now) (a .verdict)))
+    (rw (c .before .match .keys5)
+    (c .open-extend .ensures
+    ∙ sym (known (a .image .now) (requestOf extendCode (a .bytes .now) (a .caller) (a .handoff .now) (a .verdict))
+    (c .before .before .before .before .if1 .left) (c .before .before .if2 .left) refl)))
+
 refused-requires-3 : tie.Need-refused-requires-3
 refused-requires-3 c κs = tt
 
-returns-7 : tie.Need-returns-7
+returns-8 : tie.Need-returns-8
 unfolding openRequest viewIn
-returns-7 c =
+returns-8 c =
     let a = c .before .before .before .before .before .before .before .before .args in
     let r = c .before .match .rest in
     opened-told (c .refused3 .result) (openRequest (a .image .now) (requestOf (a .code) (a .bytes .now) (a .caller) (a .handoff .now) (a .verdict)))
     (rw (
       eq-eqb (length (a .image .now)) imageWords (c .before .before .before .before .if1 .left),
       eq-eqb (getD (a .image .now) markAt 0) 1 (c .before .before .if2 .left),
-      ne-eqb (a .code) stashCode (r .0 .0 .0 .1),
-      ne-eqb (a .code) disableCode (r .0 .0 .1),
-      ne-eqb (a .code) identityCode (r .0 .1),
-      ne-eqb (a .code) verifyCode (r .1),
+      ne-eqb (a .code) stashCode (r .0 .0 .0 .0 .1),
+      ne-eqb (a .code) disableCode (r .0 .0 .0 .1),
+      ne-eqb (a .code) identityCode (r .0 .0 .1),
+      ne-eqb (a .code) verifyCode (r .0 .1),
+      ne-eqb (a .code) extendCode (r .1),
     ) (c .refused3 .ensures))
 
 pub open-request-spec : {M : Type 1} → statement M
@@ -124,5 +138,7 @@ open-request-spec =
     returns-5
     open-verify-requires
     returns-6
+    open-extend-requires
+    returns-7
     refused-requires-3
-    returns-7)
+    returns-8)

@@ -10,7 +10,7 @@ bytes-of-requires : tie.Need-bytes-of-requires
 bytes-of-requires c κs = tt
 
 extended-register-requires : tie.Need-extended-register-requires
-extended-register-requires c κs = tt
+extended-register-requires c κs = search needs
 
 extend-requires : tie.Need-extend-requires
 extend-requires c κs = tt

@@ -6,7 +6,7 @@ use mathlib.Core.List.{List}
 use Prim.Native.Nat.{ℕ}
 use borrow.Author.Tests.{eq-eqb, ne-eqb}
 use Rattle.table.specs.Table.{storeAt}
-use Rattle.table.proofs.Within.{store-at}
+use Rattle.table.proofs.ByKind.{store-at}
 use Rattle.work.specs.Entries.{runsOf, putOf, storeNumber, storeImage}
 use Rattle.work.specs.Parts.{storing}
 use Rattle.work.specs.declared.Work.{Work}

@@ -1,8 +1,14 @@
 -- The callees, put together.
 use Rattle.opening.specs.Works.{registerIn}
 use borrow.Author.Needs.{needs}
-use Rattle.request.proofs.stash.extended_register.Statement.{statement}
-use Rattle.request.proofs.stash.extended_register.Tie as tie
+use Rattle.request.proofs.register.extended_register.Statement.{statement}
+use Rattle.request.proofs.register.extended_register.Tie as tie
+
+mul-bytes-in : tie.Need-mul-bytes-in
+mul-bytes-in c = search needs
+
+add-bytes-in : tie.Need-add-bytes-in
+add-bytes-in c = search needs
 
 bytes-in-requires : tie.Need-bytes-in-requires
 bytes-in-requires c κs = tt
@@ -24,6 +30,8 @@ pub extended-register-spec : {M : Type 1} → statement M
 extended-register-spec =
     tie.close
     (tie.spec
+    mul-bytes-in
+    add-bytes-in
     bytes-in-requires
     extend-requires
     slice-aggregate-pack

@@ -1,0 +1,164 @@
+-- What is asked of each command (that its answer fits, that its rules see only what they may, that what it does can be opened), as one record of laws: the
+-- only place where a proof above goes by the command. Assumes nothing.
+use Prim.Native.Nat.{ℕ, _≤_, _<_}
+use native.Mathlib.Nat.{not-suc-le-zero}
+use native.Mathlib.Omega.{arith}
+use mathlib.Core.Path.{_≡_, refl, sym, ap, _∙_}
+use mathlib.Core.Logic.{_≢_}
+use mathlib.Core.Bool.{Bool, true, false, cond, not, true≢false}
+use mathlib.Core.List.{List, [], _∷_}
+use mathlib.Core.Option.{none}
+use lib.Dec.{eqb, leb}
+use lib.ListN.{length, take, drop, length-take}
+use borrow.Author.Tests.{lt-ltb, leb-false}
+use Rattle.layout.specs.Sizes.{nodeCount, answerMax, extendable}
+use Rattle.layout.specs.Words.{bytes4}
+use Rattle.layout.specs.Refusals.{notWellFormed}
+use Rattle.tree.specs.Tree.{Tree, wellFormed, lowestFree, nodeWith, defaultWords}
+use Rattle.tree.proofs.WellFormed.{holder-only}
+use Rattle.table.specs.Table.{numberOf, indexOk}
+use Rattle.opening.specs.Tasks.{Request, Task, noStores, View}
+use Rattle.opening.specs.Rules.{Verdict, refuse, decline, Rule, Command, stashMeasurement, disableAttestation, identityKey, verifySignature, extendRegister, unknownCommand, commandOf, stashCode, disableCode, identityCode, verifyCode, extendCode, extensionIn, answerOf, ruled}
+use Rattle.opening.specs.Works.{factsOf}
+use Rattle.opening.proofs.Decided.{NoneApply, negated}
+
+-- ---- refusal 11
+
+abbrev pub Not11 : Verdict → Type 0
+Not11 (refuse n) = n ≢ notWellFormed
+Not11 (decline n) = Unit {0}
+
+-- no rule that is reached and applies has the number 11
+abbrev pub No11 : List Rule → Type 0
+No11 [] = Unit {0}
+No11 (r ∷ rs) = (r .applies ≡ true → Not11 (r .verdict)) × (r .applies ≡ false → No11 rs)
+
+-- ---- what may be opened
+
+-- a task that does not look at the nodes, and stores only if it disables
+pub record Steady (t : Task) : Type 0 where
+  pub same : (a b : Tree) → factsOf t .kind a ≡ factsOf t .kind b
+  pub index : (a : Tree) → indexOk (factsOf t .kind a) ≡ true
+  pub quiet : (a : Tree) → 0 < numberOf (factsOf t .kind a) → factsOf t .disables ≡ true
+
+-- a command's task, where no rule applied
+pub record Served (v : View) (t : Task) : Type 0 where
+  -- its indices are fine at the nodes that the rules saw
+  pub index : indexOk (factsOf t .kind (v .nodes)) ≡ true
+  -- it is no boot's
+  pub request : factsOf t .boot ≡ none
+  pub steady : v .on ≡ false → Steady t
+
+-- ---- the laws
+
+abbrev view : Bool → Bool → Tree → View
+view d o t = record { done = d; on = o; nodes = t }
+
+pub record CommandLaw (c : Command) : Type 0 where
+  -- its answer fits
+  pub short : (r : Request) → length (answerOf (c .answer r)) ≤ answerMax
+  -- while off, its rules do not look at the nodes
+  pub blind : (r : Request) (d : Bool) (s t : Tree) → ruled (c .rules (view d false s) r) c r ≡ ruled (c .rules (view d false t) r) c r
+  -- 11 is refused only while on, where the nodes are not well formed
+  pub no-11 : (v : View) (r : Request) → (v .on ≡ true → wellFormed nodeCount (v .nodes) ≡ true) → No11 (c .rules v r)
+  pub serves : (v : View) (r : Request) → NoneApply (c .rules v r) → Served v (c .task r)
+
+-- checksum and status, eight bytes, and at most the two halves of a key
+short : (rest : List ℕ) → length rest ≤ 96 → length (answerOf rest) ≤ answerMax
+unfolding answerOf
+short rest h = omega arith
+
+pub declined-short : (n : ℕ) → length (answerOf (bytes4 n)) ≤ answerMax
+declined-short n = short (bytes4 n) (omega arith)
+
+-- nothing to store
+idle : (v : View) → Served v noStores
+unfolding indexOk numberOf
+idle v =
+    record { index = refl; request = refl; steady = λ o. record { same = λ a b. refl; index = λ a. refl; quiet = λ a p. absurd (not-suc-le-zero p) } }
+
+-- a stash rests on its indices, which well-formed nodes with a free place have
+stash-law : CommandLaw stashMeasurement
+unfolding indexOk
+stash-law =
+    record {
+      short = λ r. short (bytes4 0) (omega arith);
+      blind = λ r d s t. refl;
+      no-11 = λ v r f.
+          (λ e. tt, λ e. (λ q. absurd (true≢false (sym q ∙ ap not (f (negated (v .on) e)))), λ q. (λ z. tt, λ z. tt)));
+      serves = λ v r n.
+          let t = v .nodes in
+          let free : leb nodeCount (lowestFree nodeCount t) ≡ false = n .1 .1 .0 in
+          record {
+            index =
+                rw (
+                  lt-ltb (lowestFree nodeCount t) nodeCount (leb-false nodeCount (lowestFree nodeCount t) free),
+                  lt-ltb (nodeWith nodeCount t defaultWords) nodeCount (holder-only nodeCount t (negated (wellFormed nodeCount t) (n .1 .0)) .below),
+                );
+            request = refl;
+            steady = λ o. absurd (true≢false (sym (negated (v .on) (n .0)) ∙ o));
+          };
+    }
+
+disable-law : CommandLaw disableAttestation
+unfolding indexOk
+disable-law =
+    record {
+      short = λ r. short [] (omega arith);
+      blind = λ r d s t. refl;
+      no-11 = λ v r f. tt;
+      serves = λ v r n.
+          record { index = refl; request = refl; steady = λ o. record { same = λ a b. refl; index = λ a. refl; quiet = λ a p. refl } };
+    }
+
+identity-law : CommandLaw identityKey
+identity-law =
+    record {
+      short = λ r. short (take 96 (drop 304 (r .handoff))) (omega (arith, length-take 96 (drop 304 (r .handoff))));
+      blind = λ r d s t. refl;
+      no-11 = λ v r f. (λ e z. omega arith, λ e. tt);
+      serves = λ v r n. idle v;
+    }
+
+verify-law : CommandLaw verifySignature
+verify-law =
+    record {
+      short = λ r. short [] (omega arith);
+      blind = λ r d s t. refl;
+      no-11 = λ v r f. (λ e z. omega arith, λ e. tt);
+      serves = λ v r n. idle v;
+    }
+
+-- an extension rests on its register, and is served only while on
+extend-law : CommandLaw extendRegister
+unfolding indexOk
+extend-law =
+    record {
+      short = λ r. short [] (omega arith);
+      blind = λ r d s t. refl;
+      no-11 = λ v r f. (λ e z. omega arith, λ e. (λ q z. omega arith, λ q. tt));
+      serves = λ v r n.
+          record {
+            index = negated (extendable (extensionIn r .register)) (n .0);
+            request = refl;
+            steady = λ o. absurd (true≢false (sym (negated (v .on) (n .1 .0)) ∙ o));
+          };
+    }
+
+unknown-law : CommandLaw unknownCommand
+unknown-law =
+    record { short = λ r. short [] (omega arith); blind = λ r d s t. refl; no-11 = λ v r f. tt; serves = λ v r n. idle v }
+
+-- of whatever command a code has
+pub command-law : (code : ℕ) → CommandLaw (commandOf code)
+command-law code = go (eqb code stashCode) (eqb code disableCode) (eqb code identityCode) (eqb code verifyCode) (eqb code extendCode)
+  where
+    go : (v w x y z : Bool)
+        → CommandLaw (cond v stashMeasurement
+        (cond w disableAttestation (cond x identityKey (cond y verifySignature (cond z extendRegister unknownCommand)))))
+    go true w x y z = stash-law
+    go false true x y z = disable-law
+    go false false true y z = identity-law
+    go false false false true z = verify-law
+    go false false false false true = extend-law
+    go false false false false false = unknown-law

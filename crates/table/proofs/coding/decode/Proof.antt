@@ -1,0 +1,40 @@
+-- `decode` meets its contract: a return for each arm of the match. Assumes nothing.
+use Rattle.table.specs.Coding.{kindOf}
+use borrow.Author.Tests.{ne-eqb}
+use Rattle.table.proofs.coding.decode.Statement.{statement}
+use Rattle.table.proofs.coding.decode.Tie as tie
+
+returns : tie.Need-returns
+unfolding kindOf
+returns c = rw (c .match .keys1)
+
+returns-2 : tie.Need-returns-2
+unfolding kindOf
+returns-2 c = rw (c .match .keys2)
+
+returns-3 : tie.Need-returns-3
+unfolding kindOf
+returns-3 c = rw (c .match .keys3)
+
+returns-4 : tie.Need-returns-4
+unfolding kindOf
+returns-4 c = rw (c .match .keys4)
+
+returns-5 : tie.Need-returns-5
+unfolding kindOf
+returns-5 c = rw (c .match .keys5)
+
+returns-6 : tie.Need-returns-6
+unfolding kindOf
+returns-6 c = 
+    let n = c .before .args .coded .number in
+    rw (
+      ne-eqb n 1 (c .match .rest .0 .0 .0 .0 .1),
+      ne-eqb n 2 (c .match .rest .0 .0 .0 .1),
+      ne-eqb n 3 (c .match .rest .0 .0 .1),
+      ne-eqb n 4 (c .match .rest .0 .1),
+      ne-eqb n 5 (c .match .rest .1),
+    )
+
+pub decode-spec : {M : Type 1} → statement M
+decode-spec = tie.close (tie.spec returns returns-2 returns-3 returns-4 returns-5 returns-6)
