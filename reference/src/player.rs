@@ -13,7 +13,7 @@ use crate::layout::*;
 use crate::requests::Request;
 use crate::running::Running;
 use crate::script::{Op, Reader, TOTAL, WAITING};
-use crate::work::{Kind, Work};
+use crate::work::Work;
 use std::collections::BTreeSet;
 
 /// The number for a call without a work in hand.
@@ -68,11 +68,11 @@ pub trait Host {
 pub struct Seen {
     /// The operation's letter and the number that it gave.
     pub numbers: BTreeSet<(char, u32)>,
-    pub kinds: BTreeSet<&'static str>,
+    pub kinds: BTreeSet<Sort>,
     pub outcomes: BTreeSet<u8>,
     pub dpe_results: BTreeSet<u32>,
     /// Kind of the work in hand and stores made when a cut came.
-    pub cuts: BTreeSet<(&'static str, u64)>,
+    pub cuts: BTreeSet<(Sort, u64)>,
     pub damaged_works: u64,
     pub looks: u64,
     pub looks_after_tears: u64,
@@ -203,7 +203,7 @@ impl Player {
             Op::Left => self.left()?,
             Op::Cut => {
                 if let Some(work) = self.work.take() {
-                    self.seen.cuts.insert((work.kind.name(), work.position));
+                    self.seen.cuts.insert((work.kind.sort(), work.position));
                 }
                 match &mut self.watch {
                     Watch::List(book) => self.keeper.cut(book),
@@ -244,11 +244,11 @@ impl Player {
                 self.output.extend(outcome);
                 self.put(left);
                 self.seen.numbers.insert((letter, 0));
-                self.seen.kinds.insert(work.kind.name());
+                self.seen.kinds.insert(work.kind.sort());
                 self.seen.outcomes.extend(outcome);
                 let opened = Opened {
                     number: 0,
-                    work: Some((work.kind.name(), left)),
+                    work: Some((work.kind.sort(), left)),
                     outcome,
                 };
                 self.work = Some(work);
@@ -389,11 +389,15 @@ impl Player {
     fn set(&mut self, field: u8, value: u64) {
         self.watch = Watch::Nothing;
         let Some(work) = &mut self.work else { return };
-        match (field, &mut work.kind) {
-            (0, _) => work.position = value,
-            (1, Kind::Stash { node: index, .. } | Kind::Update { root: index }) => *index = value,
-            (2, Kind::Stash { holder, .. }) => *holder = value,
-            (3, _) => work.answer_bytes = value,
+        match field {
+            0 => work.position = value,
+            1 | 2 => {
+                let mut indices = work.kind.indices();
+                if let Some(index) = indices.get_mut(usize::from(field) - 1) {
+                    *index.value() = value;
+                }
+            }
+            3 => work.answer_bytes = value,
             _ => {}
         }
         if self.engine.answer(work, &mut [0; ANSWER_MAX]) == number::STORES_LEFT

@@ -47,18 +47,26 @@ fn the_first_scripts_reach_everything() {
     assert_eq!(numbers('U'), [0, 1, 6]);
     assert_eq!(
         numbers('R'),
-        [0, 1, 2, 3, 4, 5, 11, number::CHECKSUM, number::SIGNATURE]
+        [
+            0,
+            1,
+            2,
+            3,
+            4,
+            5,
+            11,
+            12,
+            13,
+            number::CHECKSUM,
+            number::SIGNATURE
+        ]
     );
     // 1 at a store is out of a script's reach: an image takes the work along.
     assert_eq!(numbers('S'), [0, 9]);
     assert_eq!(numbers('A'), [0, 7, 8, NONE_IN_HAND]);
     assert_eq!(numbers('f'), [0, 10, 16, 27]);
     assert_eq!(numbers('e'), [0, 27]);
-    let kinds: Vec<_> = seen.kinds.iter().copied().collect();
-    assert_eq!(
-        kinds,
-        ["cold boot", "disabling", "nothing", "stash", "update"]
-    );
+    assert!(seen.kinds.iter().eq(&Sort::ALL));
     assert_eq!(
         seen.outcomes.iter().copied().collect::<Vec<_>>(),
         [0, 1, 2, 3]
@@ -67,16 +75,12 @@ fn the_first_scripts_reach_everything() {
         seen.dpe_results.iter().copied().collect::<Vec<_>>(),
         [0, 1, 2]
     );
-    for (kind, number) in [
-        ("stash", STASH_STORES),
-        ("disabling", DISABLING_STORES),
-        ("update", UPDATE_STORES),
-    ] {
-        for position in 0..=number as u64 {
-            assert!(seen.cuts.contains(&(kind, position)), "{kind} {position}");
+    for sort in Sort::ALL.into_iter().filter(|&sort| sort != Sort::Cold) {
+        for position in 0..=sort.stores() as u64 {
+            assert!(seen.cuts.contains(&(sort, position)), "{sort:?} {position}");
         }
     }
-    let cold = seen.cuts.iter().filter(|(kind, _)| *kind == "cold boot");
+    let cold = seen.cuts.iter().filter(|(sort, _)| *sort == Sort::Cold);
     // All positions take about as many seeds as there are.
     assert!(cold.count() > 400);
     assert!(seen.damaged_works > 500, "{}", seen.damaged_works);
