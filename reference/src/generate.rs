@@ -5,6 +5,7 @@ mod damage;
 mod extensions;
 mod fixed;
 mod fixed_boots;
+mod fixed_extensions;
 mod images;
 mod lists;
 mod requests;

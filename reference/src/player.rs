@@ -53,6 +53,21 @@ pub trait Host {
     /// own part: nothing.
     fn alters_work(&self, _letter: u8, _in_hand: &mut Option<Work>) {}
 
+    /// Sets a part of a work; one that its kind does not have stays.
+    fn set_part(&self, work: &mut Work, field: u8, value: u64) {
+        match field {
+            0 => work.position = value,
+            1 | 2 => {
+                let mut indices = work.kind.indices();
+                if let Some(index) = indices.get_mut(usize::from(field) - 1) {
+                    *index.value() = value;
+                }
+            }
+            3 => work.answer_bytes = value,
+            _ => {}
+        }
+    }
+
     /// Sets a count of the running digest.
     fn set_count(&self, running: &mut Running, field: u8, value: u64) {
         match field {
@@ -389,17 +404,7 @@ impl Player {
     fn set(&mut self, field: u8, value: u64) {
         self.watch = Watch::Nothing;
         let Some(work) = &mut self.work else { return };
-        match field {
-            0 => work.position = value,
-            1 | 2 => {
-                let mut indices = work.kind.indices();
-                if let Some(index) = indices.get_mut(usize::from(field) - 1) {
-                    *index.value() = value;
-                }
-            }
-            3 => work.answer_bytes = value,
-            _ => {}
-        }
+        self.engine.host.set_part(work, field, value);
         if self.engine.answer(work, &mut [0; ANSWER_MAX]) == number::STORES_LEFT
             && self.engine.left(work) == 0
         {

@@ -5,10 +5,13 @@ use reference::boots::Inputs;
 use reference::engine::{Engine, Paper};
 use reference::generate::{cuts, fixed_inputs, program_input, script};
 use reference::layout::*;
+use reference::mailbox::mailbox;
 use reference::memory::Memory;
 use reference::player::{Player, Seen, NONE_IN_HAND};
-use reference::script::{BootBytes, Op, Reader, INPUT_BYTES, LENT_WORDS, LETTERS};
+use reference::requests::Request;
+use reference::script::{BootBytes, Mail, Op, Reader, INPUT_BYTES, LENT_WORDS, LETTERS};
 use reference::sha384::{BLOCK_BYTES, DIGEST_BYTES};
+use reference::work::Work;
 use reference::wrong::{caught, GROUPS};
 use std::collections::BTreeSet;
 
@@ -305,6 +308,136 @@ fn an_input_without_a_seed_holds_every_case_of_a_boots_inputs() {
     has_every_case(&cases.collect());
 }
 
+/// An extension with what it meets, and its number.
+#[derive(Debug, PartialEq, Eq, PartialOrd, Ord)]
+struct Tried {
+    length: usize,
+    /// Of a request that reaches so far.
+    register: Option<u32>,
+    on: bool,
+    well_formed: bool,
+    full: bool,
+    number: u32,
+}
+
+impl Tried {
+    fn on(image: &[u32], mail: &Mail) -> Tried {
+        let whole = image.len() == IMAGE_WORDS;
+        let bytes = &mail.bytes;
+        let opened = Engine::PAPER.open_request(image, Request::plain(mail.code, bytes));
+        Tried {
+            length: bytes.len(),
+            register: bytes.get(4..8).map(little),
+            on: whole && image[ATTESTATION] == ON,
+            well_formed: whole && Paper.well_formed(image),
+            full: whole && Paper.free_node(image).is_none(),
+            number: opened.err().unwrap_or(0),
+        }
+    }
+}
+
+/// Where a part of an extension is set: its field and value, and whether that is
+/// before the first store, between or after the last.
+type Moved = (u8, u64, &'static str);
+
+fn moved(work: &Work, field: u8, value: u64) -> Option<Moved> {
+    let place = match work.position {
+        0 => "before",
+        14 => "after",
+        1..14 => "between",
+        _ => return None,
+    };
+    (work.kind.sort() == Sort::Extension).then_some((field, value, place))
+}
+
+/// The extensions of lists of operations, each played from the start.
+fn extensions(lists: impl Iterator<Item = Vec<Op>>) -> (BTreeSet<Tried>, BTreeSet<Moved>) {
+    let (mut tried, mut moves) = (BTreeSet::new(), BTreeSet::new());
+    for ops in lists {
+        let mut player = Player::new(Engine::PAPER);
+        for op in ops {
+            match &op {
+                Op::Request(mail) if mail.code == EXTEND => {
+                    tried.insert(Tried::on(player.image(), mail));
+                }
+                Op::Set { field, value } => {
+                    moves.extend(player.work().and_then(|work| moved(work, *field, *value)));
+                }
+                _ => {}
+            }
+            player.operate(op).expect("the books agree");
+        }
+    }
+    (tried, moves)
+}
+
+fn has_every_extension((tried, moves): &(BTreeSet<Tried>, BTreeSet<Moved>)) {
+    let has = |what: &str, sort: &dyn Fn(&Tried) -> bool| {
+        assert!(tried.iter().any(sort), "{what}");
+    };
+    let of = |case: &Tried, register: u32, number: u32| {
+        case.register == Some(register) && case.number == number
+    };
+    for register in 4..=30 {
+        has("accepted", &|case| of(case, register, 0));
+        has("off", &|case| of(case, register, 13));
+    }
+    for register in [0, 3, 31, 32, 36, 0x104, 0x0400_0000, u32::MAX] {
+        has("outside", &|case| of(case, register, 12) && case.on);
+        has("outside and off", &|case| {
+            of(case, register, 12) && !case.on
+        });
+    }
+    let near = |case: &Tried| case.register.is_some_and(|register| register <= 0x11E);
+    has("far", &|case| case.number == 12 && !near(case));
+    for number in [0, 12] {
+        has("full", &|case| case.number == number && case.full);
+        has("malformed", &|case| {
+            case.number == number && !case.well_formed && case.on
+        });
+    }
+    let outside = |case: &Tried| case.register.is_some_and(|r| !(4..=30).contains(&r));
+    for length in [8, 55, 57, 60] {
+        has("length", &|case| case.length == length && case.number == 4);
+    }
+    for number in [1, 2, 4, number::CHECKSUM] {
+        has("before 12", &|case| case.number == number && outside(case));
+        has("before 13", &|case| case.number == number && !outside(case));
+    }
+    for place in ["before", "between", "after"] {
+        for value in [0, 3, 31, (1 << 32) + 4, u64::MAX] {
+            assert!(moves.contains(&(1, value, place)), "{value} {place}");
+        }
+        let has = |field: u8, values: &dyn Fn(u64) -> bool| {
+            let fits = |&(of, value, at): &Moved| of == field && at == place && values(value);
+            assert!(moves.iter().any(fits), "{field} {place}");
+        };
+        has(1, &|value| (4..=30).contains(&value));
+        has(2, &|_| true);
+    }
+}
+
+#[test]
+fn the_first_scripts_hold_every_case_of_an_extension() {
+    has_every_extension(&extensions((0..SEEDS).map(|seed| script(seed).ops)));
+}
+
+#[test]
+fn an_input_without_a_seed_holds_every_case_of_an_extension() {
+    let inputs = fixed_inputs();
+    let last = inputs.last().expect("inputs");
+    has_every_extension(&extensions([Reader::new(last).collect()].into_iter()));
+}
+
+#[test]
+fn the_first_inputs_of_the_small_program_hold_12() {
+    let numbers: BTreeSet<u32> = (0..SEEDS)
+        .map(|seed| little(&mailbox(&program_input(seed))))
+        .collect();
+    let expected = [0, 3, 4, 5, 12, number::CHECKSUM, number::SIGNATURE];
+    assert!(numbers.iter().eq(&expected), "{numbers:?}");
+}
+
 #[test]
 fn the_inputs_without_a_seed_hold_every_case() {
     let mut found = BTreeSet::new();
@@ -318,6 +451,10 @@ fn the_inputs_without_a_seed_hold_every_case() {
         }
         all.numbers.extend(player.seen.numbers);
         all.waiting.extend(player.seen.waiting);
+        all.cuts.extend(player.seen.cuts);
+    }
+    for position in 0..=EXTENSION_STORES as u64 {
+        assert!(all.cuts.contains(&(Sort::Extension, position)));
     }
     assert!(cuts()
         .iter()
@@ -330,8 +467,18 @@ fn the_inputs_without_a_seed_hold_every_case() {
         }
     }
     let numbers = [
+        ('A', 0),
+        ('A', 7),
+        ('A', NONE_IN_HAND),
         ('C', 0),
         ('C', 6),
+        ('R', 0),
+        ('R', 1),
+        ('R', 2),
+        ('R', 4),
+        ('R', 12),
+        ('R', 13),
+        ('R', number::CHECKSUM),
         ('S', 0),
         ('S', 9),
         ('U', 0),

@@ -45,6 +45,7 @@ macro_rules! sees {
         }
     };
 }
+pub(super) use sees;
 
 super::engines! {
 
