@@ -194,7 +194,7 @@ pub type Words = [u32; DIGEST_WORDS];
 pub const ZERO: Digest = [0; DIGEST_BYTES];
 
 /// The first word of a register.
-pub fn register(index: usize) -> usize {
+pub const fn register(index: usize) -> usize {
     REGISTERS_AT + DIGEST_WORDS * index
 }
 

@@ -7,7 +7,7 @@ use reference::generate::{cuts, fixed_inputs, program_input, script};
 use reference::layout::*;
 use reference::mailbox::mailbox;
 use reference::memory::Memory;
-use reference::player::{Player, Seen, NONE_IN_HAND};
+use reference::player::{play, play_unwatched, Player, Seen, NONE_IN_HAND};
 use reference::requests::Request;
 use reference::script::{BootBytes, Mail, Op, Reader, INPUT_BYTES, LENT_WORDS, LETTERS};
 use reference::sha384::{BLOCK_BYTES, DIGEST_BYTES};
@@ -427,6 +427,21 @@ fn an_input_without_a_seed_holds_every_case_of_an_extension() {
     let inputs = fixed_inputs();
     let last = inputs.last().expect("inputs");
     has_every_extension(&extensions([Reader::new(last).collect()].into_iter()));
+}
+
+#[test]
+fn an_input_without_a_seed_tells_every_wrong_extension() {
+    let inputs = fixed_inputs();
+    let last = inputs.last().expect("inputs");
+    let right = play(last);
+    let group = GROUPS.iter().find(|group| group.title == "Extension");
+    for wrong in group.expect("the group").engines {
+        assert!(
+            play_unwatched(wrong.engine, last) != right,
+            "{}",
+            wrong.name
+        );
+    }
 }
 
 #[test]

@@ -240,21 +240,28 @@ fn an_update_keeps_the_registers_and_a_cold_boot_does_not() {
     assert_eq!(image, booted());
 }
 
-/// A driver that has an extension of PCR17 on a booted unit, stored so far.
+/// A driver that has the second extension of PCR17 in hand, stored so far.
 fn driven(made: u32) -> Player {
     let mut player = Player::new(ENGINE);
-    let boot = BootBytes::from(BOOTED_WITH);
-    let mail = Mail {
-        code: CODE,
-        caller: 3,
-        verdict: 0,
-        table: vec![],
-        bytes: sealed(CODE, &body(17, 0x77)),
+    let extension = |filling: u8| {
+        Op::Request(Mail {
+            code: CODE,
+            caller: 3,
+            verdict: 0,
+            table: vec![],
+            bytes: sealed(CODE, &body(17, filling)),
+        })
     };
-    for op in [Op::Cold(boot), Op::Store(1_217), Op::Request(mail)] {
-        player.operate(op).expect("the book agrees");
+    let boot = BootBytes::from(BOOTED_WITH);
+    for (opening, stores) in [
+        (Op::Cold(boot), 1_217),
+        (extension(0x77), 14),
+        (extension(0x88), made),
+    ] {
+        for op in [opening, Op::Store(stores)] {
+            player.operate(op).expect("the book agrees");
+        }
     }
-    player.operate(Op::Store(made)).expect("the book agrees");
     player
 }
 
@@ -269,7 +276,7 @@ fn in_hand(player: &Player) -> Work {
 
 #[test]
 fn a_register_set_within_takes_the_prepared_value() {
-    let prepared = value(&booted(), 17, 0x77);
+    let prepared = value(driven(0).image(), 17, 0x88);
     for made in 0..=14 {
         for to in [4usize, 16, 18, 30] {
             let mut player = driven(made);
@@ -325,7 +332,7 @@ fn the_book_follows_an_extension() {
         player.operate(op).expect("the book agrees");
     }
     assert_eq!(player.seen.looks, 1);
-    assert_eq!(hex(&player.image()[220..232]), ONCE);
+    assert_eq!(hex(&player.image()[220..232]), TWICE);
 }
 
 #[test]

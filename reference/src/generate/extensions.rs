@@ -30,11 +30,9 @@ const OUTSIDE: [u32; 17] = [
 ];
 
 /// The same for the register of a work, which has 64 bits.
-const OUTSIDE_IN_WORK: [u64; 12] = [
+const OUTSIDE_IN_WORK: [u64; 10] = [
     0,
     3,
-    3,
-    31,
     31,
     32,
     36,
@@ -109,8 +107,8 @@ impl Maker {
         self.push_stores(EXTENSION_STORES);
     }
 
-    /// Extensions on one unit, which is then turned off, and on another some
-    /// whose register is set.
+    /// Extensions on one unit, which is then turned off, and on others some whose
+    /// register is set.
     pub(super) fn extensions(&mut self) {
         if !self.random.once_in(3) {
             self.push_booted();
@@ -121,9 +119,8 @@ impl Maker {
         self.finish();
         self.push(Op::Dump);
         self.extensions_when_off();
-        self.push_booted();
-        for _ in 0..self.random.between(1, 3) {
-            self.moved_extension();
+        for turn in 0..2 {
+            self.moved_extension(self.seed as usize / 8 * 2 + turn);
         }
     }
 
@@ -195,19 +192,20 @@ impl Maker {
         self.push(Op::Dump);
     }
 
-    /// An extension whose register is set before, between or after its stores.
-    fn moved_extension(&mut self) {
-        self.push_extension();
-        let any = self.random.between(1, EXTENSION_STORES - 1);
-        let made = self
-            .random
-            .pick(&[0, 1, any, any, EXTENSION_STORES, EXTENSION_STORES]);
-        self.push_stores(made);
-        let to = match self.random.below(3) {
-            0 => within(&mut self.random),
-            _ => outside_in_work(&mut self.random),
-        };
-        self.set(1, to);
+    /// The second extension of a register, which is set before, between or after
+    /// its stores. Places and numbers outside take turns.
+    fn moved_extension(&mut self, in_turn: usize) {
+        self.push_booted();
+        let register = within(&mut self.random) as u32;
+        self.extend(register);
+        self.push_extension_of(register);
+        let between = self.random.between(1, EXTENSION_STORES - 1);
+        self.push_stores([0, between, EXTENSION_STORES][in_turn % 3]);
+        if self.random.once_in(2) {
+            self.set_within();
+            self.push(Op::Left);
+        }
+        self.set(1, OUTSIDE_IN_WORK[in_turn / 3 % OUTSIDE_IN_WORK.len()]);
         if self.random.once_in(3) {
             let second = self.random.pick(&[0, NODES as u64, u64::MAX]);
             self.set(2, second);
@@ -216,11 +214,15 @@ impl Maker {
         self.push(Op::Store(1));
         self.push(Op::Answer(8));
         if self.random.once_in(2) {
-            let back = within(&mut self.random);
-            self.set(1, back);
+            self.set_within();
         }
         self.push_stores(EXTENSION_STORES);
         self.push(Op::Answer(9));
         self.push(Op::Dump);
+    }
+
+    fn set_within(&mut self) {
+        let register = within(&mut self.random);
+        self.set(1, register);
     }
 }

@@ -192,12 +192,14 @@ fn all_cuts() -> Vec<Op> {
     ops
 }
 
-/// A register set after every number of stores, used, and set back.
+/// A register with a value, whose second extension has its register set after
+/// every number of stores, is used, and has it set back.
 fn all_moves() -> Vec<Op> {
     let mut ops = Vec::new();
     for made in 0..=EXTENSION_STORES {
         for to in SET_TO {
             ops.extend(cold_boot());
+            ops.extend([extend(REGISTER), stores(EXTENSION_STORES)]);
             ops.extend([extend(REGISTER), stores(made), set(1, to)]);
             ops.extend([Op::Left, Op::Answer(8), stores(1), Op::Left]);
             ops.extend([stores(EXTENSION_STORES), Op::Answer(8), Op::Dump]);

@@ -14,7 +14,7 @@ use crate::work::{Field, Kind, Work, Works};
 use std::ops::Range;
 
 /// The words of all registers that may be extended.
-const EXTENDED: Range<usize> = REGISTERS_AT + 4 * DIGEST_WORDS..REGISTERS_AT + 31 * DIGEST_WORDS;
+const EXTENDED: Range<usize> = register(4)..register(31);
 
 /// The request order with a number moved before another.
 fn extend_order(view: &View, request: Request, number: u32, other: u32) -> Vec<Refusal> {
@@ -31,14 +31,13 @@ fn valued(unit: Unit, extension: &Extension, answer: &[u8], old: Digest, by: Dig
 /// What a request comes to if an extension is declined as a stash is, wherever
 /// that applies.
 fn declined(view: &View, request: Request, result: u32, applies: bool) -> Result<Accepted, u32> {
-    let on = View { on: true, ..*view };
-    let mut accepted = Paper.decide(if request.code == EXTEND { &on } else { view }, request)?;
-    if request.code == EXTEND && applies {
-        accepted.task = Task::Nothing;
-        accepted.answer = answer_of(&result.to_le_bytes());
-        return Ok(accepted);
+    if request.code != EXTEND || !applies {
+        return Paper.decide(view, request);
     }
-    Paper.decide(view, request)
+    let mut accepted = Paper.decide(&View { on: true, ..*view }, request)?;
+    accepted.task = Task::Nothing;
+    accepted.answer = answer_of(&result.to_le_bytes());
+    Ok(accepted)
 }
 
 /// The fields of a work; those of an extension are altered.
@@ -48,6 +47,15 @@ fn altered<'a>(work: &'a Work, alter: impl Fn(&mut Vec<Field<'a>>)) -> Vec<Field
         alter(&mut fields);
     }
     fields
+}
+
+/// A work with the register of an extension within its bounds.
+fn inside(work: &Work) -> Work {
+    let mut inside = work.clone();
+    if let Kind::Extension { register } = &mut inside.kind {
+        *register = *EXTENDABLE.start();
+    }
+    inside
 }
 
 /// A work with the register of an extension cut to 32 bits.
@@ -322,11 +330,17 @@ RegisterAsNode: "a work's register has a node's bound"
 OutsideAnswered: "a register outside does not count after the last store"
 [works: Works] {
     fn answer(&self, work: &Work, buffer: &mut [u8]) -> u32 {
-        let mut inside = work.clone();
-        if let Kind::Extension { register } = &mut inside.kind {
-            *register = *EXTENDABLE.start();
-        }
-        Paper.answer(&inside, buffer)
+        Paper.answer(&inside(work), buffer)
+    }
+}
+
+OutsideLeft: "a register outside does not count in the stores left"
+[works: Works] {
+    fn left(&self, work: &Work) -> u32 {
+        Paper.left(&inside(work))
+    }
+    fn store(&self, work: &mut Work, image: &mut [u32]) -> u32 {
+        Paper.store(work, image)
     }
 }
 
