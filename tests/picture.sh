@@ -47,15 +47,20 @@ stash() { # BYTE
     request 0x4D454153 60 "$(u32 $((0x100000000 - sum)))$(repeat 4 0)$(repeat 48 "$1")$(repeat 4 0)"
 }
 disable() { request 0x4453424C 4 "$(u32 0xFFFFFEDB)"; }
+extend() { # REGISTER BYTE
+    local sum=$((0x50 + 0x43 + 0x52 + 0x45 + $1 + 48 * $2))
+    request 0x50435245 56 "$(u32 $((0x100000000 - sum)))$(u32 "$1")$(repeat 48 "$2")"
+}
 
 # ---- the kinds of work: what is done before, how it is opened, and the length of both replies
 
-names=('a new measurement' 'an update' 'a disable command' 'a boot that switches off' 'a cold boot (a new list)')
+names=('a new measurement' 'an extended register' 'an update' 'a disable command' 'a boot that switches off'
+    'a cold boot (a new list)')
 unit=$(cold_boot 0x11 0x33 0x22 && all && stash 0x33 && all)
-before=('' '' '' "$(disable && all)" '')
+before=('' '' '' '' "$(disable && all)" '')
 update=$(update_boot 0x55 0x99 0x66 1)
-opening=("$(stash 0x44)" "$update" "$(disable)" "$update" "$(cold_boot 0x77 0xAA 0x88)")
-replies=(8 9 8 25 9)
+opening=("$(stash 0x44)" "$(extend 4 0x44)" "$update" "$(disable)" "$update" "$(cold_boot 0x77 0xAA 0x88)")
+replies=(8 8 9 8 25 9)
 reboot=X$(update_boot 0x11 0x33 0x22 0 && all)D
 
 # The last four bytes of a number's reply, as a number.
@@ -108,13 +113,15 @@ runs() {
 }
 
 draw() {
-    awk '
+    awk -v rows="${#names[@]}" '
         BEGIN {
             colour["on"] = "#2e8b57"; colour["torn"] = "#c0392b"; colour["asked"] = "#8a8f98"
             left = 190; wide = 540; narrow = 90; top = 52; step = 62
-            print "<svg xmlns=\"http://www.w3.org/2000/svg\" width=\"760\" height=\"400\" viewBox=\"0 0 760 400\" font-family=\"sans-serif\" font-size=\"13\">"
+            high = top + step * rows + 38
+            size = "width=\"760\" height=\"" high "\""
+            print "<svg xmlns=\"http://www.w3.org/2000/svg\" " size " viewBox=\"0 0 760 " high "\" font-family=\"sans-serif\" font-size=\"13\">"
             print "<title>What a power cut after each store leaves, after the next update boot</title>"
-            print "<rect width=\"760\" height=\"400\" fill=\"#ffffff\"/>"
+            print "<rect " size " fill=\"#ffffff\"/>"
             print "<text x=\"12\" y=\"24\" font-size=\"15\" font-weight=\"bold\">The power is cut after this many stores of</text>"
         }
         function text(x, y, words, anchor) {

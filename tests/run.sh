@@ -176,6 +176,16 @@ expect 'a refusal in words' \
 { printf 'SAEM\xda\xfe\xff\xff' && head -c 56 /dev/zero; } >stash
 expect 'a dpe result in words' 'Its dpe result is 0 (the measurement was taken).' \
     "$("$root/demo" request stash 2>/dev/null | tail -n 1)"
+{ printf 'ERCP\xb8\xfe\xff\xff\x1e' && head -c 51 /dev/zero; } >extension
+expect 'an extension in words' 'The command code is 0x50435245: extend a register.' \
+    "$("$root/demo" request extension 2>/dev/null | grep command)"
+expect 'an accepted extension in words' \
+    'The result is 0 (accepted). The answer of 8 bytes has the checksum 0x00000000 and FIPS status 0 (always 0).' \
+    "$("$root/demo" request extension 2>/dev/null | tail -n 1)"
+{ printf 'ERCP\xb7\xfe\xff\xff\x1f' && head -c 51 /dev/zero; } >outside
+expect 'a register outside in words' \
+    'The result is 12 (0xC, refused: the register is none of 4 to 30): nothing was stored, and there is no answer.' \
+    "$("$root/demo" request outside 2>/dev/null | tail -n 1)"
 printf AB >short
 expect 'a short request in words' \
     'The result is 3 (0x3, refused: unknown command code): nothing was stored, and there is no answer.' \

@@ -8,7 +8,7 @@ use crate::boots::{Boot, Boots, Inputs};
 use crate::engine::Paper;
 use crate::layout::*;
 use crate::memory::Memory;
-use crate::requests::{Request, Requests, Stash, Task, View};
+use crate::requests::{Extension, Request, Requests, Stash, Task, View};
 
 /// Work and its inputs.
 #[derive(Clone, Debug, PartialEq, Eq)]
@@ -18,29 +18,25 @@ pub enum Event {
     DisableCommand,
     BootDisabling,
     Stash(Stash),
+    Extension(Extension),
     Nothing,
 }
 
 impl Event {
-    /// The number of stores.
-    fn number(&self) -> u32 {
+    fn sort(&self) -> Sort {
         match self {
-            Event::Cold(_) => COLD_STORES as u32,
-            Event::Update(_) => UPDATE_STORES as u32,
-            Event::DisableCommand | Event::BootDisabling => DISABLING_STORES as u32,
-            Event::Stash(_) => STASH_STORES as u32,
-            Event::Nothing => 0,
+            Event::Cold(_) => Sort::Cold,
+            Event::Update(_) => Sort::Update,
+            Event::DisableCommand | Event::BootDisabling => Sort::Disabling,
+            Event::Stash(_) => Sort::Stash,
+            Event::Extension(_) => Sort::Extension,
+            Event::Nothing => Sort::Nothing,
         }
     }
 
-    fn kind_name(&self) -> &'static str {
-        match self {
-            Event::Cold(_) => "cold boot",
-            Event::Update(_) => "update",
-            Event::DisableCommand | Event::BootDisabling => "disabling",
-            Event::Stash(_) => "stash",
-            Event::Nothing => "nothing",
-        }
+    /// The number of stores.
+    fn number(&self) -> u32 {
+        self.sort().stores() as u32
     }
 }
 
@@ -127,6 +123,10 @@ impl State {
                     locality: stash.caller,
                 });
             }
+            Event::Extension(extension) => {
+                let register = &mut self.registers[extension.register as usize];
+                *register = extended(register, &extension.digest);
+            }
             Event::DisableCommand | Event::BootDisabling | Event::Nothing => {}
         }
         self
@@ -176,7 +176,7 @@ impl Hand {
 pub struct Opened {
     pub number: u32,
     /// Kind and stores left, if it was accepted.
-    pub work: Option<(&'static str, u32)>,
+    pub work: Option<(Sort, u32)>,
     pub outcome: Option<u8>,
 }
 
@@ -237,6 +237,7 @@ impl Book {
             Ok(accepted) => {
                 let event = match accepted.task {
                     Task::Stash(stash) => Event::Stash(stash),
+                    Task::Extend(extension) => Event::Extension(extension),
                     Task::Disable => Event::DisableCommand,
                     Task::Nothing => Event::Nothing,
                 };
@@ -329,7 +330,7 @@ impl Book {
             made: 0,
             of_boot: outcome.is_some(),
         };
-        let work = Some((hand.event.kind_name(), hand.left()));
+        let work = Some((hand.event.sort(), hand.left()));
         self.in_hand = Some(hand);
         Opened {
             number: 0,

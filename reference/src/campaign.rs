@@ -2,7 +2,7 @@
 
 use crate::checksum::sealed;
 use crate::generate::{fixed_inputs, program_input, script, Script};
-use crate::layout::{DISABLE, IDENTITY, IMAGE_WORDS, STASH, VERIFY};
+use crate::layout::{DISABLE, EXTEND, IDENTITY, IMAGE_WORDS, STASH, VERIFY};
 use crate::mailbox::mailbox;
 use crate::player::play;
 use crate::script::{encode, BootBytes, Mail, Op, INPUT_BYTES, LENT_WORDS};
@@ -175,6 +175,8 @@ fn longest_operations() -> Vec<Op> {
         request(most, IDENTITY, 4),
         request(most, STASH, 60),
         request(4_096, VERIFY, most),
+        request(4_096, EXTEND, most),
+        request(most, EXTEND, 56),
         Op::Answer(u16::MAX),
         Op::Store(u32::MAX),
         Op::Answer(u16::MAX),

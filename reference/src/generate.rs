@@ -1,9 +1,11 @@
-//! Scripts by seed. Each mixes pieces of six sorts and ends with the image.
+//! Scripts by seed. Each mixes pieces of seven sorts and ends with the image.
 
 mod broken;
 mod damage;
+mod extensions;
 mod fixed;
 mod fixed_boots;
+mod fixed_extensions;
 mod images;
 mod lists;
 mod requests;
@@ -44,7 +46,10 @@ pub fn script(seed: u64) -> Script {
     let mut maker = Maker::new(seed);
     match seed % 8 {
         0 | 1 => maker.lists(2),
-        2 => maker.long_list(),
+        2 => {
+            maker.long_list();
+            maker.extensions();
+        }
         3 => maker.images(3),
         4 => maker.images(2),
         5 => maker.requests(),
@@ -55,12 +60,13 @@ pub fn script(seed: u64) -> Script {
         maker.long_slices();
     }
     while maker.size < ENOUGH && !maker.random.once_in(3) {
-        match maker.random.below(7) {
+        match maker.random.below(8) {
             0 | 1 => maker.lists(1),
             2 => maker.images(1),
             3 => maker.requests(),
             4 => maker.works(6),
             5 => maker.slices(6),
+            6 => maker.extensions(),
             _ => maker.long_list(),
         }
     }

@@ -4,6 +4,7 @@
 //! has the papers'.
 
 use crate::sha384::{digest, DIGEST_BYTES};
+use std::ops::RangeInclusive;
 
 /// Words of a digest, a register or the secret.
 pub const DIGEST_WORDS: usize = DIGEST_BYTES / 4;
@@ -31,6 +32,9 @@ pub const CURRENT: usize = 2;
 pub const JOURNEY: usize = 3;
 pub const STASHED: usize = 31;
 
+/// The registers that an extension may name.
+pub const EXTENDABLE: RangeInclusive<u64> = 4..=30;
+
 /// Offsets within a node. The first word is the parent's index over "used".
 pub const TAG: usize = 1;
 pub const HANDLE: usize = 2;
@@ -54,11 +58,47 @@ pub const STASH_STORES: usize = 2 + DIGEST_WORDS + NODE_WORDS + HANDLE_WORDS;
 pub const DISABLING_STORES: usize = 2 + 1 + DIGEST_WORDS;
 pub const UPDATE_STORES: usize = 2 + 5 * DIGEST_WORDS;
 pub const COLD_STORES: usize = 2 + IMAGE_WORDS - 1;
+pub const EXTENSION_STORES: usize = 2 + DIGEST_WORDS;
+
+/// The kinds of work, in the order of their numbers from 0 on.
+#[derive(Clone, Copy, Debug, PartialEq, Eq, PartialOrd, Ord)]
+pub enum Sort {
+    Nothing,
+    Disabling,
+    Stash,
+    Update,
+    Cold,
+    Extension,
+}
+
+impl Sort {
+    pub const ALL: [Sort; 6] = [
+        Sort::Nothing,
+        Sort::Disabling,
+        Sort::Stash,
+        Sort::Update,
+        Sort::Cold,
+        Sort::Extension,
+    ];
+
+    /// The number of stores.
+    pub const fn stores(self) -> usize {
+        match self {
+            Sort::Nothing => 0,
+            Sort::Disabling => DISABLING_STORES,
+            Sort::Stash => STASH_STORES,
+            Sort::Update => UPDATE_STORES,
+            Sort::Cold => COLD_STORES,
+            Sort::Extension => EXTENSION_STORES,
+        }
+    }
+}
 
 pub const STASH: u32 = 0x4D45_4153;
 pub const DISABLE: u32 = 0x4453_424C;
 pub const IDENTITY: u32 = 0x4944_4549;
 pub const VERIFY: u32 = 0x5349_4756;
+pub const EXTEND: u32 = 0x5043_5245;
 
 /// A command's row in the table of "Mailbox".
 #[derive(Clone, Copy)]
@@ -78,11 +118,12 @@ const fn row(code: u32, name: &'static str, request_bytes: usize, answer_bytes: 
     }
 }
 
-pub const COMMANDS: [Command; 4] = [
+pub const COMMANDS: [Command; 5] = [
     row(STASH, "stash", 60, 12),
     row(DISABLE, "disable", 4, 8),
     row(IDENTITY, "identity", 4, ANSWER_MAX),
     row(VERIFY, "verify", 196, 8),
+    row(EXTEND, "extend", 56, 8),
 ];
 
 /// The longest answer, an identity key.
@@ -94,12 +135,14 @@ pub fn command(code: u32) -> Option<&'static Command> {
 }
 
 /// The checksum before a request or an answer; behind it an answer's FIPS
-/// status, or a stash's fields.
+/// status, or the fields of a stash or an extension.
 pub const CHECKSUM_BYTES: usize = 4;
 pub const STATUS_BYTES: usize = 4;
 pub const STASH_TYPE: usize = 4;
 pub const STASH_DIGEST: usize = 8;
 pub const STASH_SVN: usize = 56;
+pub const EXTEND_REGISTER: usize = 4;
+pub const EXTEND_DIGEST: usize = 8;
 
 pub const TABLE_BYTES: usize = 2_048;
 pub const TABLE_MARKER: u32 = 0x5448_4643;
@@ -125,6 +168,8 @@ pub mod number {
     pub const NO_STORE: u32 = 9;
     pub const SLICE: u32 = 10;
     pub const TREE: u32 = 11;
+    pub const REGISTER: u32 = 12;
+    pub const OFF: u32 = 13;
     pub const TOTAL: u32 = 16;
     pub const COUNTS: u32 = 27;
     pub const CHECKSUM: u32 = 0x4243_484B;
@@ -149,7 +194,7 @@ pub type Words = [u32; DIGEST_WORDS];
 pub const ZERO: Digest = [0; DIGEST_BYTES];
 
 /// The first word of a register.
-pub fn register(index: usize) -> usize {
+pub const fn register(index: usize) -> usize {
     REGISTERS_AT + DIGEST_WORDS * index
 }
 

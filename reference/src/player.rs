@@ -13,7 +13,7 @@ use crate::layout::*;
 use crate::requests::Request;
 use crate::running::Running;
 use crate::script::{Op, Reader, TOTAL, WAITING};
-use crate::work::{Kind, Work};
+use crate::work::Work;
 use std::collections::BTreeSet;
 
 /// The number for a call without a work in hand.
@@ -53,6 +53,21 @@ pub trait Host {
     /// own part: nothing.
     fn alters_work(&self, _letter: u8, _in_hand: &mut Option<Work>) {}
 
+    /// Sets a part of a work; one that its kind does not have stays.
+    fn set_part(&self, work: &mut Work, field: u8, value: u64) {
+        match field {
+            0 => work.position = value,
+            1 | 2 => {
+                let mut indices = work.kind.indices();
+                if let Some(index) = indices.get_mut(usize::from(field) - 1) {
+                    *index.value() = value;
+                }
+            }
+            3 => work.answer_bytes = value,
+            _ => {}
+        }
+    }
+
     /// Sets a count of the running digest.
     fn set_count(&self, running: &mut Running, field: u8, value: u64) {
         match field {
@@ -68,11 +83,11 @@ pub trait Host {
 pub struct Seen {
     /// The operation's letter and the number that it gave.
     pub numbers: BTreeSet<(char, u32)>,
-    pub kinds: BTreeSet<&'static str>,
+    pub kinds: BTreeSet<Sort>,
     pub outcomes: BTreeSet<u8>,
     pub dpe_results: BTreeSet<u32>,
     /// Kind of the work in hand and stores made when a cut came.
-    pub cuts: BTreeSet<(&'static str, u64)>,
+    pub cuts: BTreeSet<(Sort, u64)>,
     pub damaged_works: u64,
     pub looks: u64,
     pub looks_after_tears: u64,
@@ -203,7 +218,7 @@ impl Player {
             Op::Left => self.left()?,
             Op::Cut => {
                 if let Some(work) = self.work.take() {
-                    self.seen.cuts.insert((work.kind.name(), work.position));
+                    self.seen.cuts.insert((work.kind.sort(), work.position));
                 }
                 match &mut self.watch {
                     Watch::List(book) => self.keeper.cut(book),
@@ -244,11 +259,11 @@ impl Player {
                 self.output.extend(outcome);
                 self.put(left);
                 self.seen.numbers.insert((letter, 0));
-                self.seen.kinds.insert(work.kind.name());
+                self.seen.kinds.insert(work.kind.sort());
                 self.seen.outcomes.extend(outcome);
                 let opened = Opened {
                     number: 0,
-                    work: Some((work.kind.name(), left)),
+                    work: Some((work.kind.sort(), left)),
                     outcome,
                 };
                 self.work = Some(work);
@@ -389,13 +404,7 @@ impl Player {
     fn set(&mut self, field: u8, value: u64) {
         self.watch = Watch::Nothing;
         let Some(work) = &mut self.work else { return };
-        match (field, &mut work.kind) {
-            (0, _) => work.position = value,
-            (1, Kind::Stash { node: index, .. } | Kind::Update { root: index }) => *index = value,
-            (2, Kind::Stash { holder, .. }) => *holder = value,
-            (3, _) => work.answer_bytes = value,
-            _ => {}
-        }
+        self.engine.host.set_part(work, field, value);
         if self.engine.answer(work, &mut [0; ANSWER_MAX]) == number::STORES_LEFT
             && self.engine.left(work) == 0
         {

@@ -57,6 +57,7 @@ impl View {
 #[derive(Clone, Debug, PartialEq, Eq)]
 pub enum Task {
     Stash(Stash),
+    Extend(Extension),
     Disable,
     Nothing,
 }
@@ -80,6 +81,13 @@ impl Stash {
             caller: request.caller,
         }
     }
+}
+
+/// An extension's inputs.
+#[derive(Clone, Debug, PartialEq, Eq)]
+pub struct Extension {
+    pub register: u32,
+    pub digest: Digest,
 }
 
 /// An accepted request: its task and its answer.
@@ -106,6 +114,7 @@ pub trait Requests {
             Task::Nothing => Work::new(Kind::Nothing, &answer),
             Task::Disable => Work::new(Kind::Disabling, &answer),
             Task::Stash(stash) => self.stash_work(unit, &stash, &answer),
+            Task::Extend(extension) => self.extension_work(unit, &extension, &answer),
         })
     }
 
@@ -122,6 +131,10 @@ pub trait Requests {
                     _ => Task::Nothing,
                 };
                 (task, result.to_le_bytes().to_vec())
+            }
+            EXTEND => {
+                let extension = self.extension(request.bytes);
+                (extension.map_or(Task::Nothing, Task::Extend), vec![])
             }
             DISABLE => (Task::Disable, vec![]),
             IDENTITY => (Task::Nothing, request.table[KEY_AT..][..KEY_BYTES].to_vec()),
@@ -145,6 +158,11 @@ pub trait Requests {
                 code == IDENTITY && !self.table_fine(request.table),
             ),
             (number::SIGNATURE, code == VERIFY && !request.verdict),
+            (
+                number::REGISTER,
+                code == EXTEND && !self.register_fine(bytes),
+            ),
+            (number::OFF, code == EXTEND && !view.on),
         ]
     }
 
@@ -162,6 +180,29 @@ pub trait Requests {
         table.len() == TABLE_BYTES
             && little(table) == TABLE_MARKER
             && table[TABLE_MAJOR_AT..][..2] == TABLE_MAJOR.to_le_bytes()
+    }
+
+    /// The inputs of an extension, if all their bytes are there.
+    fn extension(&self, bytes: &[u8]) -> Option<Extension> {
+        let digest = bytes.get(EXTEND_DIGEST..)?.first_chunk()?;
+        Some(Extension {
+            register: self.register_of(bytes),
+            digest: *digest,
+        })
+    }
+
+    /// The register in a request of an extension.
+    fn register_of(&self, bytes: &[u8]) -> u32 {
+        little(&bytes[EXTEND_REGISTER..])
+    }
+
+    fn register_fine(&self, bytes: &[u8]) -> bool {
+        let extension = self.extension(bytes);
+        extension.is_some_and(|extension| self.may_extend(extension.register))
+    }
+
+    fn may_extend(&self, register: u32) -> bool {
+        EXTENDABLE.contains(&u64::from(register))
     }
 
     /// A stash's dpe result, or a refusal.
@@ -194,6 +235,17 @@ pub trait Requests {
         work.set_node(NODE_CUMULATIVE, &extended(&ZERO, &stash.digest));
         work.node[TYPE] = stash.kind;
         work.node[LOCALITY] = stash.caller;
+        work
+    }
+
+    /// An accepted extension of its register.
+    fn extension_work(&self, unit: Unit, extension: &Extension, answer: &[u8]) -> Work {
+        let old = unit.bytes_at(register(extension.register as usize));
+        let kind = Kind::Extension {
+            register: u64::from(extension.register),
+        };
+        let mut work = Work::new(kind, answer);
+        work.extended = words_of(&extended(&old, &extension.digest));
         work
     }
 }

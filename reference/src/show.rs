@@ -128,7 +128,12 @@ pub fn operation(op: &Op) -> String {
         Op::Left => "L".into(),
         Op::Cut => "X".into(),
         Op::Set { field, value } => {
-            let parts = ["position", "first index", "second index", "answer length"];
+            let parts = [
+                "position",
+                "first index or register",
+                "second index",
+                "answer length",
+            ];
             format!("W {} = {value}", field_name(*field, &parts))
         }
         Op::Dump => "D".into(),

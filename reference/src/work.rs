@@ -9,25 +9,42 @@ pub enum Kind {
     Update { root: u64 },
     Disabling,
     Stash { node: u64, holder: u64 },
+    Extension { register: u64 },
     Nothing,
 }
 
-impl Kind {
-    pub fn name(self) -> &'static str {
+/// An index that a work carries, by what it names.
+pub enum Index<'a> {
+    Node(&'a mut u64),
+    Register(&'a mut u64),
+}
+
+impl Index<'_> {
+    pub fn value(&mut self) -> &mut u64 {
         match self {
-            Kind::Cold => "cold boot",
-            Kind::Update { .. } => "update",
-            Kind::Disabling => "disabling",
-            Kind::Stash { .. } => "stash",
-            Kind::Nothing => "nothing",
+            Index::Node(index) | Index::Register(index) => index,
+        }
+    }
+}
+
+impl Kind {
+    pub fn sort(self) -> Sort {
+        match self {
+            Kind::Cold => Sort::Cold,
+            Kind::Update { .. } => Sort::Update,
+            Kind::Disabling => Sort::Disabling,
+            Kind::Stash { .. } => Sort::Stash,
+            Kind::Extension { .. } => Sort::Extension,
+            Kind::Nothing => Sort::Nothing,
         }
     }
 
-    /// The nodes that the work names.
-    fn indices(self) -> Vec<u64> {
+    /// The indices, the first first.
+    pub fn indices(&mut self) -> Vec<Index<'_>> {
         match self {
-            Kind::Stash { node, holder } => vec![node, holder],
-            Kind::Update { root } => vec![root],
+            Kind::Stash { node, holder } => vec![Index::Node(node), Index::Node(holder)],
+            Kind::Update { root } => vec![Index::Node(root)],
+            Kind::Extension { register } => vec![Index::Register(register)],
             Kind::Cold | Kind::Disabling | Kind::Nothing => vec![],
         }
     }
@@ -43,6 +60,7 @@ pub struct Work {
     pub current: Words,
     pub journey: Words,
     pub stashed: Words,
+    pub extended: Words,
     pub secret: Words,
     pub node: [u32; NODE_WORDS],
     /// A cold boot's words from word 1 on; empty for every other kind.
@@ -61,6 +79,7 @@ impl Work {
             current: [0; DIGEST_WORDS],
             journey: [0; DIGEST_WORDS],
             stashed: [0; DIGEST_WORDS],
+            extended: [0; DIGEST_WORDS],
             secret: [0; DIGEST_WORDS],
             node: [0; NODE_WORDS],
             whole: Vec::new(),
@@ -92,6 +111,11 @@ pub trait Works {
                 (register(STASHED), &work.stashed),
                 (node(new as usize), &work.node),
                 (node(holder as usize) + HANDLE, &RETIRED_HANDLE),
+                MARK_DONE,
+            ],
+            Kind::Extension { register: named } => vec![
+                MARK_OPEN,
+                (register(named as usize), &work.extended),
                 MARK_DONE,
             ],
             Kind::Disabling => vec![
@@ -139,13 +163,24 @@ pub trait Works {
 
     /// Whether indices, answer length and position are within their bounds.
     fn is_sound(&self, work: &Work) -> bool {
-        work.kind.indices().iter().all(|&index| self.is_node(index))
-            && work.answer_bytes <= ANSWER_MAX as u64
-            && work.position <= self.number(work)
+        let mut kind = work.kind;
+        let within = kind.indices().iter().all(|index| self.is_within(index));
+        within && work.answer_bytes <= ANSWER_MAX as u64 && work.position <= self.number(work)
+    }
+
+    fn is_within(&self, index: &Index) -> bool {
+        match index {
+            Index::Node(index) => self.is_node(**index),
+            Index::Register(index) => self.is_register(**index),
+        }
     }
 
     fn is_node(&self, index: u64) -> bool {
         index < NODES as u64
+    }
+
+    fn is_register(&self, index: u64) -> bool {
+        EXTENDABLE.contains(&index)
     }
 
     /// The reported stores left.

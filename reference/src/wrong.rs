@@ -7,6 +7,7 @@
 mod boots;
 mod caught;
 mod empty;
+mod extension;
 mod manifest;
 mod memory;
 mod program;
@@ -68,6 +69,7 @@ pub const GROUPS: &[Group] = &[
     group("The image", memory::ENGINES, ByScripts),
     group("Requests", requests::ENGINES, ByScripts),
     group("Stash", stash::ENGINES, ByScripts),
+    group("Extension", extension::ENGINES, ByScripts),
     group("Boots", boots::ENGINES, ByScripts),
     group("The manifest digest", manifest::ENGINES, ByScripts),
     group("Works by value", works::ENGINES, ByScripts),

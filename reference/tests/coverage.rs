@@ -5,10 +5,13 @@ use reference::boots::Inputs;
 use reference::engine::{Engine, Paper};
 use reference::generate::{cuts, fixed_inputs, program_input, script};
 use reference::layout::*;
+use reference::mailbox::mailbox;
 use reference::memory::Memory;
-use reference::player::{Player, Seen, NONE_IN_HAND};
-use reference::script::{BootBytes, Op, Reader, INPUT_BYTES, LENT_WORDS, LETTERS};
+use reference::player::{play, play_unwatched, Player, Seen, NONE_IN_HAND};
+use reference::requests::Request;
+use reference::script::{BootBytes, Mail, Op, Reader, INPUT_BYTES, LENT_WORDS, LETTERS};
 use reference::sha384::{BLOCK_BYTES, DIGEST_BYTES};
+use reference::work::Work;
 use reference::wrong::{caught, GROUPS};
 use std::collections::BTreeSet;
 
@@ -47,18 +50,26 @@ fn the_first_scripts_reach_everything() {
     assert_eq!(numbers('U'), [0, 1, 6]);
     assert_eq!(
         numbers('R'),
-        [0, 1, 2, 3, 4, 5, 11, number::CHECKSUM, number::SIGNATURE]
+        [
+            0,
+            1,
+            2,
+            3,
+            4,
+            5,
+            11,
+            12,
+            13,
+            number::CHECKSUM,
+            number::SIGNATURE
+        ]
     );
     // 1 at a store is out of a script's reach: an image takes the work along.
     assert_eq!(numbers('S'), [0, 9]);
     assert_eq!(numbers('A'), [0, 7, 8, NONE_IN_HAND]);
     assert_eq!(numbers('f'), [0, 10, 16, 27]);
     assert_eq!(numbers('e'), [0, 27]);
-    let kinds: Vec<_> = seen.kinds.iter().copied().collect();
-    assert_eq!(
-        kinds,
-        ["cold boot", "disabling", "nothing", "stash", "update"]
-    );
+    assert!(seen.kinds.iter().eq(&Sort::ALL));
     assert_eq!(
         seen.outcomes.iter().copied().collect::<Vec<_>>(),
         [0, 1, 2, 3]
@@ -67,16 +78,12 @@ fn the_first_scripts_reach_everything() {
         seen.dpe_results.iter().copied().collect::<Vec<_>>(),
         [0, 1, 2]
     );
-    for (kind, number) in [
-        ("stash", STASH_STORES),
-        ("disabling", DISABLING_STORES),
-        ("update", UPDATE_STORES),
-    ] {
-        for position in 0..=number as u64 {
-            assert!(seen.cuts.contains(&(kind, position)), "{kind} {position}");
+    for sort in Sort::ALL.into_iter().filter(|&sort| sort != Sort::Cold) {
+        for position in 0..=sort.stores() as u64 {
+            assert!(seen.cuts.contains(&(sort, position)), "{sort:?} {position}");
         }
     }
-    let cold = seen.cuts.iter().filter(|(kind, _)| *kind == "cold boot");
+    let cold = seen.cuts.iter().filter(|(sort, _)| *sort == Sort::Cold);
     // All positions take about as many seeds as there are.
     assert!(cold.count() > 400);
     assert!(seen.damaged_works > 500, "{}", seen.damaged_works);
@@ -301,6 +308,151 @@ fn an_input_without_a_seed_holds_every_case_of_a_boots_inputs() {
     has_every_case(&cases.collect());
 }
 
+/// An extension with what it meets, and its number.
+#[derive(Debug, PartialEq, Eq, PartialOrd, Ord)]
+struct Tried {
+    length: usize,
+    /// Of a request that reaches so far.
+    register: Option<u32>,
+    on: bool,
+    well_formed: bool,
+    full: bool,
+    number: u32,
+}
+
+impl Tried {
+    fn on(image: &[u32], mail: &Mail) -> Tried {
+        let whole = image.len() == IMAGE_WORDS;
+        let bytes = &mail.bytes;
+        let opened = Engine::PAPER.open_request(image, Request::plain(mail.code, bytes));
+        Tried {
+            length: bytes.len(),
+            register: bytes.get(4..8).map(little),
+            on: whole && image[ATTESTATION] == ON,
+            well_formed: whole && Paper.well_formed(image),
+            full: whole && Paper.free_node(image).is_none(),
+            number: opened.err().unwrap_or(0),
+        }
+    }
+}
+
+/// Where a part of an extension is set: its field and value, and whether that is
+/// before the first store, between or after the last.
+type Moved = (u8, u64, &'static str);
+
+fn moved(work: &Work, field: u8, value: u64) -> Option<Moved> {
+    let place = match work.position {
+        0 => "before",
+        14 => "after",
+        1..14 => "between",
+        _ => return None,
+    };
+    (work.kind.sort() == Sort::Extension).then_some((field, value, place))
+}
+
+/// The extensions of lists of operations, each played from the start.
+fn extensions(lists: impl Iterator<Item = Vec<Op>>) -> (BTreeSet<Tried>, BTreeSet<Moved>) {
+    let (mut tried, mut moves) = (BTreeSet::new(), BTreeSet::new());
+    for ops in lists {
+        let mut player = Player::new(Engine::PAPER);
+        for op in ops {
+            match &op {
+                Op::Request(mail) if mail.code == EXTEND => {
+                    tried.insert(Tried::on(player.image(), mail));
+                }
+                Op::Set { field, value } => {
+                    moves.extend(player.work().and_then(|work| moved(work, *field, *value)));
+                }
+                _ => {}
+            }
+            player.operate(op).expect("the books agree");
+        }
+    }
+    (tried, moves)
+}
+
+fn has_every_extension((tried, moves): &(BTreeSet<Tried>, BTreeSet<Moved>)) {
+    let has = |what: &str, sort: &dyn Fn(&Tried) -> bool| {
+        assert!(tried.iter().any(sort), "{what}");
+    };
+    let of = |case: &Tried, register: u32, number: u32| {
+        case.register == Some(register) && case.number == number
+    };
+    for register in 4..=30 {
+        has("accepted", &|case| of(case, register, 0));
+        has("off", &|case| of(case, register, 13));
+    }
+    for register in [0, 3, 31, 32, 36, 0x104, 0x0400_0000, u32::MAX] {
+        has("outside", &|case| of(case, register, 12) && case.on);
+        has("outside and off", &|case| {
+            of(case, register, 12) && !case.on
+        });
+    }
+    let near = |case: &Tried| case.register.is_some_and(|register| register <= 0x11E);
+    has("far", &|case| case.number == 12 && !near(case));
+    for number in [0, 12] {
+        has("full", &|case| case.number == number && case.full);
+        has("malformed", &|case| {
+            case.number == number && !case.well_formed && case.on
+        });
+    }
+    let outside = |case: &Tried| case.register.is_some_and(|r| !(4..=30).contains(&r));
+    for length in [8, 55, 57, 60] {
+        has("length", &|case| case.length == length && case.number == 4);
+    }
+    for number in [1, 2, 4, number::CHECKSUM] {
+        has("before 12", &|case| case.number == number && outside(case));
+        has("before 13", &|case| case.number == number && !outside(case));
+    }
+    for place in ["before", "between", "after"] {
+        for value in [0, 3, 31, (1 << 32) + 4, u64::MAX] {
+            assert!(moves.contains(&(1, value, place)), "{value} {place}");
+        }
+        let has = |field: u8, values: &dyn Fn(u64) -> bool| {
+            let fits = |&(of, value, at): &Moved| of == field && at == place && values(value);
+            assert!(moves.iter().any(fits), "{field} {place}");
+        };
+        has(1, &|value| (4..=30).contains(&value));
+        has(2, &|_| true);
+    }
+}
+
+#[test]
+fn the_first_scripts_hold_every_case_of_an_extension() {
+    has_every_extension(&extensions((0..SEEDS).map(|seed| script(seed).ops)));
+}
+
+#[test]
+fn an_input_without_a_seed_holds_every_case_of_an_extension() {
+    let inputs = fixed_inputs();
+    let last = inputs.last().expect("inputs");
+    has_every_extension(&extensions([Reader::new(last).collect()].into_iter()));
+}
+
+#[test]
+fn an_input_without_a_seed_tells_every_wrong_extension() {
+    let inputs = fixed_inputs();
+    let last = inputs.last().expect("inputs");
+    let right = play(last);
+    let group = GROUPS.iter().find(|group| group.title == "Extension");
+    for wrong in group.expect("the group").engines {
+        assert!(
+            play_unwatched(wrong.engine, last) != right,
+            "{}",
+            wrong.name
+        );
+    }
+}
+
+#[test]
+fn the_first_inputs_of_the_small_program_hold_12() {
+    let numbers: BTreeSet<u32> = (0..SEEDS)
+        .map(|seed| little(&mailbox(&program_input(seed))))
+        .collect();
+    let expected = [0, 3, 4, 5, 12, number::CHECKSUM, number::SIGNATURE];
+    assert!(numbers.iter().eq(&expected), "{numbers:?}");
+}
+
 #[test]
 fn the_inputs_without_a_seed_hold_every_case() {
     let mut found = BTreeSet::new();
@@ -314,6 +466,10 @@ fn the_inputs_without_a_seed_hold_every_case() {
         }
         all.numbers.extend(player.seen.numbers);
         all.waiting.extend(player.seen.waiting);
+        all.cuts.extend(player.seen.cuts);
+    }
+    for position in 0..=EXTENSION_STORES as u64 {
+        assert!(all.cuts.contains(&(Sort::Extension, position)));
     }
     assert!(cuts()
         .iter()
@@ -326,8 +482,18 @@ fn the_inputs_without_a_seed_hold_every_case() {
         }
     }
     let numbers = [
+        ('A', 0),
+        ('A', 7),
+        ('A', NONE_IN_HAND),
         ('C', 0),
         ('C', 6),
+        ('R', 0),
+        ('R', 1),
+        ('R', 2),
+        ('R', 4),
+        ('R', 12),
+        ('R', 13),
+        ('R', number::CHECKSUM),
         ('S', 0),
         ('S', 9),
         ('U', 0),

@@ -28,6 +28,9 @@ fn a_node() {
 fn the_numbers_of_stores() {
     assert_eq!((STASH_STORES, DISABLING_STORES), (53, 15));
     assert_eq!((UPDATE_STORES, COLD_STORES), (62, 1_217));
+    assert_eq!(EXTENSION_STORES, 14);
+    assert_eq!(Sort::ALL.map(Sort::stores), [0, 15, 53, 62, 1_217, 14]);
+    assert_eq!(Sort::ALL.map(|sort| sort as usize), [0, 1, 2, 3, 4, 5]);
 }
 
 #[test]
@@ -47,9 +50,18 @@ fn the_commands() {
             (0x4453_424C, 4, 8),
             (0x4944_4549, 4, 104),
             (0x5349_4756, 196, 8),
+            (0x5043_5245, 56, 8),
         ]
     );
     assert_eq!(rows.iter().map(|row| row.2).max(), Some(ANSWER_MAX));
+}
+
+#[test]
+fn an_extension() {
+    assert_eq!(EXTENDABLE, 4..=30);
+    assert_eq!((EXTEND_REGISTER, EXTEND_DIGEST), (4, 8));
+    assert_eq!((register(4), register(30)), (64, 376));
+    assert_eq!((number::REGISTER, number::OFF), (12, 13));
 }
 
 #[test]

@@ -4,8 +4,8 @@ use super::slices::Slices;
 use super::{Book, Event, Look, Measure, Opened, State};
 use crate::boots::{Boot, Boots, Inputs};
 use crate::engine::Paper;
-use crate::layout::extended;
-use crate::requests::Request;
+use crate::layout::{extended, STASHED};
+use crate::requests::{Extension, Request};
 
 /// How the books are kept.
 pub trait Keeper {
@@ -97,6 +97,48 @@ pub const BOOKS: &[WrongBook] = &[
         "UpdateForgotten",
         "a counted update is left out of the history",
         &Forgotten(|event| matches!(event, Event::Update(_))),
+    ),
+    book(
+        "ExtensionForgotten",
+        "a counted extension is left out of the history",
+        &Forgotten(|event| matches!(event, Event::Extension(_))),
+    ),
+    book(
+        "ExtensionInStashed",
+        "a counted extension extends PCR31",
+        &Extending(|book, extension| {
+            book.history.push(Event::Extension(Extension {
+                register: STASHED as u32,
+                ..extension
+            }));
+        }),
+    ),
+    book(
+        "ExtensionTwice",
+        "an extension counts twice",
+        &Extending(|book, extension| {
+            let event = Event::Extension(extension);
+            book.history.extend([event.clone(), event]);
+        }),
+    ),
+    book(
+        "ExtensionAtOpening",
+        "an extension counts at its opening",
+        &ExtensionAtOpening,
+    ),
+    book(
+        "ExtensionFromZero",
+        "an extension counts without the earlier ones of its register",
+        &Extending(|book, extension| {
+            let same = |event: &Event| matches!(event, Event::Extension(e) if e.register == extension.register);
+            book.history.retain(|event| !same(event));
+            book.history.push(Event::Extension(extension));
+        }),
+    ),
+    book(
+        "ExtensionsUntilUpdate",
+        "a counted update takes all extensions out of the history",
+        &ExtensionsUntilUpdate,
     ),
     book(
         "HistoryWithoutManifest",
@@ -224,6 +266,58 @@ impl Keeper for Forgotten {
         let stored = book.store();
         if book.history.last().is_some_and(self.0) {
             book.history.pop();
+            book.state = State::replay(&book.history, book.measure);
+        }
+        stored
+    }
+}
+
+/// Enters a counted extension in another way.
+struct Extending(fn(&mut Book, Extension));
+
+impl Keeper for Extending {
+    fn store(&self, book: &mut Book) -> (u32, Option<Look>) {
+        let before = book.history.len();
+        let stored = book.store();
+        if book.history.len() > before {
+            if let Some(Event::Extension(extension)) = book.history.last().cloned() {
+                book.history.pop();
+                (self.0)(book, extension);
+                book.state = State::replay(&book.history, book.measure);
+            }
+        }
+        stored
+    }
+}
+
+struct ExtensionAtOpening;
+
+impl Keeper for ExtensionAtOpening {
+    fn request(&self, book: &mut Book, request: Request) -> Opened {
+        let opened = book.request(request);
+        if let (0, Some(hand)) = (opened.number, &book.in_hand) {
+            if let Event::Extension(_) = hand.event {
+                let event = hand.event.clone();
+                book.counts(event);
+            }
+        }
+        opened
+    }
+
+    /// The last store does not count it again.
+    fn store(&self, book: &mut Book) -> (u32, Option<Look>) {
+        Extending(|_, _| {}).store(book)
+    }
+}
+
+struct ExtensionsUntilUpdate;
+
+impl Keeper for ExtensionsUntilUpdate {
+    fn store(&self, book: &mut Book) -> (u32, Option<Look>) {
+        let stored = book.store();
+        if let Some(Event::Update(_)) = book.history.last() {
+            let is_extension = |event: &Event| matches!(event, Event::Extension(_));
+            book.history.retain(|event| !is_extension(event));
             book.state = State::replay(&book.history, book.measure);
         }
         stored

@@ -1,7 +1,8 @@
-//! Inputs that have no seed: they go through every case of the running digest
-//! and of a boot's inputs.
+//! Inputs that have no seed: they go through every case of the running digest,
+//! of a boot's inputs and of an extension.
 
 use super::fixed_boots::boot_inputs;
+use super::fixed_extensions::extensions;
 use super::slices::{cuts, BLOCK, MANY, PAST};
 use crate::layout::{SLICE_BYTES, TOTAL_BYTES};
 use crate::random::Random;
@@ -26,7 +27,7 @@ pub fn fixed_inputs() -> Vec<Vec<u8>> {
     inputs.extend(in_pieces(cuts().into_iter().map(cut_in_two)));
     inputs.extend(in_pieces(pairs().map(cut_in_three)));
     inputs.extend([slice_to_the_end(0), slice_to_the_end(1)]);
-    inputs.push(encode(&boot_inputs()));
+    inputs.extend([encode(&boot_inputs()), encode(&extensions())]);
     inputs
 }
 

@@ -210,10 +210,16 @@ impl Maker {
             self.push_small_request();
             self.push(Op::Answer(ANSWER_MAX as u16));
         }
+        if self.random.once_in(2) {
+            // The tree does not count.
+            self.push_extension();
+            self.push(Op::Left);
+        }
         for _ in 0..self.random.between(1, 3) {
-            match self.random.below(6) {
+            match self.random.below(7) {
                 0..=2 => self.push_stash(),
                 3 | 4 => self.push_update(true),
+                5 => self.push_extension(),
                 _ => self.push_disable(),
             }
             if self.random.once_in(4) {

@@ -8,6 +8,7 @@ use crate::script::Op;
 #[derive(Clone, Copy)]
 enum Opening {
     Stash,
+    Extension,
     Disable,
     Update,
     /// An update boot of a unit that a command has disabled.
@@ -15,12 +16,22 @@ enum Opening {
 }
 
 impl Opening {
+    const ALL: [Opening; 5] = [
+        Opening::Stash,
+        Opening::Extension,
+        Opening::Disable,
+        Opening::Update,
+        Opening::BootDisabling,
+    ];
+
     fn number(self) -> usize {
-        match self {
-            Opening::Stash => STASH_STORES,
-            Opening::Disable | Opening::BootDisabling => DISABLING_STORES,
-            Opening::Update => UPDATE_STORES,
-        }
+        let sort = match self {
+            Opening::Stash => Sort::Stash,
+            Opening::Extension => Sort::Extension,
+            Opening::Disable | Opening::BootDisabling => Sort::Disabling,
+            Opening::Update => Sort::Update,
+        };
+        sort.stores()
     }
 }
 
@@ -59,15 +70,9 @@ impl Maker {
         self.push_booted();
         let before = self.random.below(3);
         self.fill(before);
-        let kinds = [
-            Opening::Stash,
-            Opening::Disable,
-            Opening::Update,
-            Opening::BootDisabling,
-        ];
-        let all: usize = kinds.iter().map(|kind| kind.number() + 1).sum();
-        let mut position = in_turn % all;
-        for kind in kinds {
+        let numbers = Opening::ALL.iter().map(|kind| kind.number() + 1);
+        let mut position = in_turn % numbers.sum::<usize>();
+        for kind in Opening::ALL {
             if position <= kind.number() {
                 self.open(kind);
                 break;
@@ -137,7 +142,7 @@ impl Maker {
     }
 
     fn event(&mut self) {
-        match self.random.below(20) {
+        match self.random.below(22) {
             0..=3 => {
                 self.push_stash();
                 self.finish();
@@ -178,6 +183,11 @@ impl Maker {
                 self.push(Op::Answer(8));
             }
             17 if self.random.once_in(2) => self.interrupted(),
+            18 | 19 => {
+                self.push_extension();
+                self.finish();
+                self.push(Op::Answer(8));
+            }
             _ => self.peek(),
         }
     }
@@ -185,6 +195,7 @@ impl Maker {
     fn open(&mut self, opening: Opening) {
         match opening {
             Opening::Stash => self.push_stash(),
+            Opening::Extension => self.push_extension(),
             Opening::Disable => self.push_disable(),
             Opening::Update => self.push_update(true),
             Opening::BootDisabling => {
@@ -197,9 +208,14 @@ impl Maker {
     }
 
     fn open_any(&mut self) -> Opening {
-        let opening = self
-            .random
-            .pick(&[Opening::Stash, Opening::Disable, Opening::Update]);
+        let opening = self.random.pick(&[
+            Opening::Stash,
+            Opening::Stash,
+            Opening::Extension,
+            Opening::Disable,
+            Opening::Update,
+            Opening::Update,
+        ]);
         self.open(opening);
         opening
     }

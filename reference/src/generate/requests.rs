@@ -1,5 +1,6 @@
 //! Requests, sound and damaged.
 
+use super::extensions::set_register;
 use super::Maker;
 use crate::checksum::{checksum, sealed};
 use crate::layout::*;
@@ -19,7 +20,6 @@ fn unknown_code(random: &mut Random) -> u32 {
         near ^ (1 << bit),
         near.wrapping_add(1),
         near & 0xFFFF,
-        0x5043_5245,
         0x4450_4543,
         0x4944_4543,
         any,
@@ -28,7 +28,7 @@ fn unknown_code(random: &mut Random) -> u32 {
 }
 
 /// A checksum that is wrong in a way that somebody could accept.
-fn spoil(random: &mut Random, code: u32, bytes: &mut [u8]) {
+pub(super) fn spoil(random: &mut Random, code: u32, bytes: &mut [u8]) {
     if bytes.len() < 4 {
         return;
     }
@@ -52,9 +52,17 @@ fn spoil(random: &mut Random, code: u32, bytes: &mut [u8]) {
     bytes[..4].copy_from_slice(&wrong.to_le_bytes());
 }
 
+/// What is behind the checksum in a request of so many bytes: random, but for an
+/// extension's register.
+fn body(random: &mut Random, code: u32, length: usize) -> Vec<u8> {
+    let mut body = random.bytes(length - CHECKSUM_BYTES);
+    set_register(random, code, &mut body);
+    body
+}
+
 impl Maker {
     /// A request of any caller, as it is.
-    fn push_mail(&mut self, code: u32, bytes: Vec<u8>, table: Vec<u8>, yes: bool) {
+    pub(super) fn push_mail(&mut self, code: u32, bytes: Vec<u8>, table: Vec<u8>, yes: bool) {
         let mail = Mail {
             code,
             caller: self.word(),
@@ -67,11 +75,6 @@ impl Maker {
 
     pub(super) fn push_request(&mut self, code: u32, body: &[u8], table: Vec<u8>, yes: bool) {
         self.push_mail(code, sealed(code, body), table, yes);
-    }
-
-    /// As many random bytes as a command's request has behind the checksum.
-    fn body(&mut self, command: Command) -> Vec<u8> {
-        self.random.bytes(command.request_bytes - CHECKSUM_BYTES)
     }
 
     /// A signature of any bytes.
@@ -171,10 +174,11 @@ impl Maker {
 
     /// A request of any command, accepted if the unit is ready for it.
     pub(super) fn push_any_request(&mut self) {
-        match self.random.below(6) {
+        match self.random.below(8) {
             0..=2 => self.push_stash(),
             3 => self.push_disable(),
             4 => self.push_verify(true),
+            5 | 6 => self.push_extension(),
             _ => self.push_request(IDENTITY, &[], Vec::new(), true),
         }
     }
@@ -182,15 +186,17 @@ impl Maker {
     /// A request that is refused whatever the image holds.
     pub(super) fn push_refused_request(&mut self) {
         let command = self.random.pick(&COMMANDS);
-        let body = self.body(command);
+        let body = body(&mut self.random, command.code, command.request_bytes);
         let yes = self.random.once_in(2);
-        match self.random.below(6) {
+        match self.random.below(7) {
             0 => {
                 let code = unknown_code(&mut self.random);
                 self.push_request(code, &body, Vec::new(), yes);
             }
             1 => {
-                let length = self.random.pick(&[0, 3, 5, 8, 59, 61, 195, 197, 260]);
+                let length = self
+                    .random
+                    .pick(&[0, 3, 5, 8, 55, 57, 59, 61, 195, 197, 260]);
                 let bytes = self.of_length(command.code, length);
                 self.push_mail(command.code, bytes, Vec::new(), yes);
             }
@@ -203,16 +209,18 @@ impl Maker {
                 let table = self.random.bytes(7);
                 self.push_request(IDENTITY, &[], table, true);
             }
+            5 => self.push_outside(),
             _ => self.push_verify(false),
         }
     }
 
     /// A request of so many bytes, its checksum right for them.
     fn of_length(&mut self, code: u32, length: usize) -> Vec<u8> {
-        match length.checked_sub(CHECKSUM_BYTES) {
-            Some(rest) => sealed(code, &self.random.bytes(rest)),
-            None => self.random.bytes(length),
+        if length < CHECKSUM_BYTES {
+            return self.random.bytes(length);
         }
+        let body = body(&mut self.random, code, length);
+        sealed(code, &body)
     }
 
     /// Many requests on one image: every length, every fault.
@@ -318,7 +326,7 @@ pub fn program_input(seed: u64) -> Vec<u8> {
         request_bytes,
         ..
     } = random.pick(&COMMANDS);
-    let mut body = random.bytes(request_bytes - CHECKSUM_BYTES);
+    let mut body = body(&mut random, code, request_bytes);
     if random.once_in(3) {
         body.fill(0);
     }

@@ -1,5 +1,6 @@
 //! Works whose parts are set from outside, damaged ones included.
 
+use super::extensions::{outside_in_work, within};
 use super::Maker;
 use crate::layout::*;
 use crate::script::Op;
@@ -15,72 +16,77 @@ impl Maker {
         self.push(Op::Dump);
     }
 
-    /// Opens a work: its number of stores and the length of its answer.
-    fn open_some(&mut self) -> (usize, usize) {
+    /// Opens a work: its kind and the length of its answer.
+    fn open_some(&mut self) -> (Sort, usize) {
         let answer = |code: u32| command(code).map_or(0, |command| command.answer_bytes);
-        match self.random.below(10) {
+        match self.random.below(12) {
             0..=2 => {
                 self.push_stash();
-                (STASH_STORES, answer(STASH))
+                (Sort::Stash, answer(STASH))
             }
             3 => {
                 self.push_disable();
-                (DISABLING_STORES, answer(DISABLE))
+                (Sort::Disabling, answer(DISABLE))
             }
             4 | 5 => {
                 self.push_update(true);
-                (UPDATE_STORES, 0)
+                (Sort::Update, 0)
             }
             6 => {
                 self.push_cold();
-                (COLD_STORES, 0)
+                (Sort::Cold, 0)
             }
             7 => {
                 self.push_update(false);
-                (0, 0)
+                (Sort::Nothing, 0)
             }
-            8 => {
+            8 | 9 => {
+                self.push_extension();
+                (Sort::Extension, answer(EXTEND))
+            }
+            10 => {
                 let table = self.good_table();
                 if self.size < super::ENOUGH {
                     self.push_request(IDENTITY, &[], table, true);
                 } else {
                     self.push_any_request();
                 }
-                (0, answer(IDENTITY))
+                (Sort::Nothing, answer(IDENTITY))
             }
             _ => {
                 self.push(Op::Cut);
-                (DISABLING_STORES, answer(DISABLE))
+                (Sort::Disabling, answer(DISABLE))
             }
         }
     }
 
     fn work(&mut self) {
-        let (number, length) = self.open_some();
+        let (sort, length) = self.open_some();
+        let number = sort.stores();
         if self.random.once_in(3) {
             let made = self.random.between(0, number.min(70));
             self.push_stores(made);
         }
         let (number, length) = (number as u64, length as u64);
         for _ in 0..self.random.between(1, 4) {
-            self.set_part(number, length);
+            self.set_part(sort, length);
             self.use_work(number);
         }
         if self.random.once_in(2) {
             // Mended, it is as good as before.
             self.set(3, length);
-            let node = self.random.below(NODES) as u64;
-            self.set(1, node);
-            let other = self.random.below(NODES) as u64;
-            let holder = self.random.pick(&[other, other, node]);
-            self.set(2, holder);
+            let first = self.index(sort);
+            self.set(1, first);
+            let other = self.index(sort);
+            let second = self.random.pick(&[other, other, first]);
+            self.set(2, second);
             let position = self.random.pick(&[0, 0, number / 2, number]);
             self.set(0, position);
             self.use_work(number);
             self.finish();
             self.push_answer();
             self.push(Op::Dump);
-            self.spoil_finished(number, length);
+            self.spoil_finished(sort, length);
         }
         if self.random.once_in(3) {
             let yes = self.random.once_in(2);
@@ -94,10 +100,14 @@ impl Maker {
 
     /// A finished work with one part past its bound, and mended again; then all
     /// its stores once more, on the image that they have changed.
-    fn spoil_finished(&mut self, number: u64, length: u64) {
-        self.set(0, number);
+    fn spoil_finished(&mut self, sort: Sort, length: u64) {
+        self.set(0, sort.stores() as u64);
         let (nodes, most) = (NODES as u64, ANSWER_MAX as u64);
-        for (field, past, fine) in [(3, most + 1, length), (1, nodes, 0), (2, nodes, 0)] {
+        let (past, fine) = match sort {
+            Sort::Extension => (outside_in_work(&mut self.random), *EXTENDABLE.start()),
+            _ => (nodes, 0),
+        };
+        for (field, past, fine) in [(3, most + 1, length), (1, past, fine), (2, nodes, 0)] {
             self.set(field, past);
             self.push(Op::Left);
             self.push(Op::Store(1));
@@ -112,11 +122,20 @@ impl Maker {
         }
     }
 
-    fn set(&mut self, field: u8, value: u64) {
+    pub(super) fn set(&mut self, field: u8, value: u64) {
         self.push(Op::Set { field, value });
     }
 
-    fn set_part(&mut self, number: u64, length: u64) {
+    /// An index within its bounds.
+    fn index(&mut self, sort: Sort) -> u64 {
+        match sort {
+            Sort::Extension => within(&mut self.random),
+            _ => self.random.below(NODES) as u64,
+        }
+    }
+
+    fn set_part(&mut self, sort: Sort, length: u64) {
+        let number = sort.stores() as u64;
         let field = self.random.pick(&[0, 0, 0, 1, 1, 2, 2, 3, 3, 4, 255]);
         let near = self.random.between(0, 65) as u64;
         let inside = self.random.between(0, number as usize) as u64;
@@ -144,6 +163,10 @@ impl Maker {
                 (1 << 63) + near,
                 u64::MAX,
             ]),
+            1 if sort == Sort::Extension => match self.random.below(3) {
+                0 => within(&mut self.random),
+                _ => outside_in_work(&mut self.random),
+            },
             1 | 2 => self.random.pick(&[
                 0,
                 1,

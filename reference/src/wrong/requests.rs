@@ -197,6 +197,13 @@ VerifyKeepsCode: "a signature's answer keeps the code in its checksum"
     }
 }
 
+ExtensionKeepsCode: "an extension's answer keeps the code in its checksum"
+[requests: Requests] {
+    fn decide(&self, view: &View, request: Request) -> Result<Accepted, u32> {
+        keeping(view, request, |code, _| code == EXTEND)
+    }
+}
+
 KeySwapped: "Y comes before X"
 [requests: Requests] {
     fn decide(&self, view: &View, request: Request) -> Result<Accepted, u32> {

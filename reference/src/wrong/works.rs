@@ -17,11 +17,10 @@ fn half_position(work: &Work) -> Work {
 /// A work with the indices cut to 32 bits.
 fn half_indices(work: &Work) -> Work {
     let mut half = work.clone();
-    match &mut half.kind {
-        Kind::Stash { node, holder } => (*node, *holder) = (*node & LOW_HALF, *holder & LOW_HALF),
-        Kind::Update { root } => *root &= LOW_HALF,
-        Kind::Cold | Kind::Disabling | Kind::Nothing => {}
-    }
+    let indices = half.kind.indices();
+    indices
+        .into_iter()
+        .for_each(|mut index| *index.value() &= LOW_HALF);
     half
 }
 
@@ -46,6 +45,7 @@ macro_rules! sees {
         }
     };
 }
+pub(super) use sees;
 
 super::engines! {
 

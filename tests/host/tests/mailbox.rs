@@ -15,6 +15,7 @@ const USED: usize = 65_000;
 const UNKNOWN_CODE: [u8; 4] = [3, 0, 0, 0];
 const WRONG_LENGTH: [u8; 4] = [4, 0, 0, 0];
 const HANDOFF_WRONG: [u8; 4] = [5, 0, 0, 0];
+const REGISTER_OUTSIDE: [u8; 4] = [12, 0, 0, 0];
 /// 0x4243484B, lowest byte first.
 const BAD_CHECKSUM: [u8; 4] = *b"KHCB";
 /// 0x42534947, lowest byte first.
@@ -25,6 +26,7 @@ const STASH: [u8; 4] = *b"SAEM";
 const DISABLE: [u8; 4] = *b"LBSD";
 const IDENTITY_KEY: [u8; 4] = *b"IEDI";
 const VERIFY: [u8; 4] = *b"VGIS";
+const EXTEND: [u8; 4] = *b"ERCP";
 
 /// Card 10.
 const CARD_10: [u8; 8] = [0x4C, 0x42, 0x53, 0x44, 0xDB, 0xFE, 0xFF, 0xFF];
@@ -32,6 +34,9 @@ const CARD_10_OUTPUT: [u8; 12] = [0; 12];
 
 /// What every accepted stash writes: result 0, and the answer with dpe result 0, whose checksum is 0.
 const STASHED: [u8; 16] = [0; 16];
+
+/// What every accepted extension writes: result 0, and the answer of checksum and FIPS status.
+const EXTENDED: [u8; 12] = [0; 12];
 
 /// Code, checksum and the bytes after it.
 fn request(code: [u8; 4], checksum: u32, rest: &[u8]) -> Vec<u8> {
@@ -140,6 +145,53 @@ fn stash_with_one_bit_changed() {
         let at = random.between(4, input.len() - 1);
         input[at] ^= 1 << random.between(0, 7);
         writes(&input, &BAD_CHECKSUM);
+    }
+}
+
+/// A register's number and a digest.
+fn extension(register: u32, digest: &[u8]) -> Vec<u8> {
+    [&register.to_le_bytes(), digest].concat()
+}
+
+#[test]
+fn extension_by_zero_bytes() {
+    let input = request(EXTEND, 0xFFFF_FED2, &extension(4, &[0; 48]));
+    assert_eq!(hex(&input[..12]), "45524350d2feffff04000000");
+    writes(&input, &EXTENDED);
+}
+
+#[test]
+fn extension_of_each_register() {
+    let mut random = Random::from_seed(3);
+    for register in 4..=30 {
+        let rest = extension(register, &random.bytes(48));
+        writes(&sealed(EXTEND, &rest), &EXTENDED);
+    }
+}
+
+#[test]
+fn extension_of_a_register_outside() {
+    for register in [0, 3, 31, 32, 36, 0x104, 0x0400_0000, 0x8000_0004, u32::MAX] {
+        let rest = extension(register, &[7; 48]);
+        writes(&sealed(EXTEND, &rest), &REGISTER_OUTSIDE);
+    }
+}
+
+#[test]
+fn extension_with_a_bad_checksum() {
+    for register in [4, 31] {
+        let rest = extension(register, &[7; 48]);
+        writes(&request(EXTEND, 0, &rest), &BAD_CHECKSUM);
+    }
+}
+
+#[test]
+fn extension_of_another_length() {
+    for length in [0, 4, 47, 49, 52] {
+        for register in [4, 31] {
+            let rest = extension(register, &vec![7; length]);
+            writes(&sealed(EXTEND, &rest), &WRONG_LENGTH);
+        }
     }
 }
 

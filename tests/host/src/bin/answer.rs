@@ -7,15 +7,21 @@
 
 use host::driver::{Replies, Script};
 use reference::boots::Inputs;
+use reference::layout::{extended_by, words_of, ZERO};
 
 const STASH: u32 = 0x4D45_4153;
 const DISABLE: u32 = 0x4453_424C;
+const EXTEND: u32 = 0x5043_5245;
 
 /// A number that is more than the stores of any work.
 const ALL: u32 = 10_000;
 
 const FIRST_NODE: usize = 400;
 const NODE_WORDS: usize = 34;
+
+/// PCR4, the register that is extended, and its first word.
+const REGISTER: u32 = 4;
+const REGISTER_AT: usize = 64;
 
 /// The inputs of the unit's boots, of the update, and of the cold boot over both.
 const BOOTED_WITH: Inputs = Inputs {
@@ -58,7 +64,18 @@ fn stash_arguments(byte: u8) -> Vec<u8> {
     arguments
 }
 
-fn kinds() -> [Kind; 5] {
+fn extension_arguments(byte: u8) -> Vec<u8> {
+    let mut arguments = REGISTER.to_le_bytes().to_vec();
+    arguments.extend([byte; 48]);
+    arguments
+}
+
+/// The register after both extensions.
+fn extended_twice() -> [u32; 12] {
+    words_of(&extended_by(&ZERO, &[[0x33; 48], [0x44; 48]]))
+}
+
+fn kinds() -> [Kind; 6] {
     [
         Kind {
             name: "a new measurement (stash)",
@@ -69,6 +86,19 @@ fn kinds() -> [Kind; 5] {
             shown: |with, without| with.nodes == without.nodes + 1,
             counted: "the new measurement is in the list",
             lost: "the new measurement is not in the list; all earlier ones are",
+        },
+        Kind {
+            name: "an extension of a register",
+            before: |s| s.request(EXTEND, &extension_arguments(0x33)).stores(ALL),
+            skip: |r| {
+                r.request();
+                r.stores();
+            },
+            open: |s| s.request(EXTEND, &extension_arguments(0x44)),
+            left: |r| r.request(),
+            shown: |with, _| with.register == extended_twice(),
+            counted: "the new digest is in its register",
+            lost: "the new digest is not in its register; all earlier ones are",
         },
         Kind {
             name: "a disable command",
@@ -125,38 +155,62 @@ struct Left {
     secret_zero: bool,
     nodes: usize,
     root: Vec<u32>,
+    register: Vec<u32>,
 }
 
-fn run(kind: &Kind, stores: Option<u32>) -> (u32, Option<Left>) {
+/// A unit with one measurement, and what is done before the work is opened.
+fn unit(kind: &Kind) -> Script {
     let script = Script::new()
         .cold_boot(BOOTED_WITH)
         .stores(ALL)
         .request(STASH, &stash_arguments(0x33))
         .stores(ALL);
-    let mut script = (kind.open)((kind.before)(script));
-    if let Some(stores) = stores {
-        script = script
-            .stores(stores)
-            .cut()
-            .update_boot(BOOTED_WITH, false)
-            .stores(ALL)
-            .image();
-    }
+    (kind.before)(script)
+}
+
+/// What the driver wrote behind the unit's part of a script.
+fn run(kind: &Kind, script: Script) -> Replies {
     let mut replies = script.run();
     replies.boot();
     replies.stores();
     replies.request();
     replies.stores();
     (kind.skip)(&mut replies);
-    let number = (kind.left)(&mut replies);
-    let Some(stores) = stores else {
-        return (number, None);
-    };
+    replies
+}
+
+/// The number of stores.
+fn number(kind: &Kind) -> u32 {
+    (kind.left)(&mut run(kind, (kind.open)(unit(kind))))
+}
+
+/// A cut, then an update boot to its end.
+fn reboot(script: Script) -> Script {
+    script
+        .cut()
+        .update_boot(BOOTED_WITH, false)
+        .stores(ALL)
+        .image()
+}
+
+/// What is left if the work is never opened.
+fn untouched(kind: &Kind) -> Left {
+    left(&mut run(kind, reboot(unit(kind))))
+}
+
+/// What is left if it is cut after so many stores.
+fn cut(kind: &Kind, stores: u32) -> Left {
+    let mut replies = run(kind, reboot((kind.open)(unit(kind)).stores(stores)));
+    (kind.left)(&mut replies);
     assert_eq!(replies.stores(), stores);
+    left(&mut replies)
+}
+
+fn left(replies: &mut Replies) -> Left {
     let (outcome, _) = replies.boot();
     replies.stores();
     let image = replies.image();
-    let left = Left {
+    Left {
         outcome,
         on: image[1] == 1,
         secret_zero: image[4..16].iter().all(|&word| word == 0),
@@ -165,8 +219,8 @@ fn run(kind: &Kind, stores: Option<u32>) -> (u32, Option<Left>) {
             .filter(|&at| image[at] % 65_536 == 1)
             .count(),
         root: image[FIRST_NODE..FIRST_NODE + NODE_WORDS].to_vec(),
-    };
-    (number, Some(left))
+        register: image[REGISTER_AT..REGISTER_AT + 12].to_vec(),
+    }
 }
 
 /// What is said of a cut after so many stores; the image has to bear it out.
@@ -190,11 +244,10 @@ fn sentence(kind: &Kind, left: &Left, untouched: &Left, stores: u32, number: u32
 
 /// The rows of one kind: cuts that leave the same are one row.
 fn rows(kind: &Kind) -> Vec<String> {
-    let (number, _) = run(kind, None);
-    let untouched = run(kind, Some(0)).1.expect("a run");
+    let (number, untouched) = (number(kind), untouched(kind));
     let mut rows: Vec<(u32, u32, String)> = Vec::new();
     for stores in 0..=number {
-        let left = run(kind, Some(stores)).1.expect("a run");
+        let left = cut(kind, stores);
         let text = sentence(kind, &left, &untouched, stores, number);
         let attestation = if left.on { "on" } else { "off" };
         let cell = format!("{attestation} | {text}");
