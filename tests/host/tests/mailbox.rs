@@ -15,6 +15,7 @@ const USED: usize = 65_000;
 const UNKNOWN_CODE: [u8; 4] = [3, 0, 0, 0];
 const WRONG_LENGTH: [u8; 4] = [4, 0, 0, 0];
 const HANDOFF_WRONG: [u8; 4] = [5, 0, 0, 0];
+const WRONG_REGISTER: [u8; 4] = [12, 0, 0, 0];
 /// 0x4243484B, lowest byte first.
 const BAD_CHECKSUM: [u8; 4] = *b"KHCB";
 /// 0x42534947, lowest byte first.
@@ -25,6 +26,7 @@ const STASH: [u8; 4] = *b"SAEM";
 const DISABLE: [u8; 4] = *b"LBSD";
 const IDENTITY_KEY: [u8; 4] = *b"IEDI";
 const VERIFY: [u8; 4] = *b"VGIS";
+const EXTEND: [u8; 4] = *b"ERCP";
 
 /// Card 10.
 const CARD_10: [u8; 8] = [0x4C, 0x42, 0x53, 0x44, 0xDB, 0xFE, 0xFF, 0xFF];
@@ -137,6 +139,58 @@ fn stash_with_one_bit_changed() {
     let mut random = Random::from_seed(2);
     for _ in 0..20 {
         let mut input = sealed(STASH, &random.bytes(56));
+        let at = random.between(4, input.len() - 1);
+        input[at] ^= 1 << random.between(0, 7);
+        writes(&input, &BAD_CHECKSUM);
+    }
+}
+
+/// Result 0, and the answer of 8 bytes, whose checksum is 0.
+const EXTENDED: [u8; 12] = [0; 12];
+
+/// An extension of a register by a digest, with the right checksum.
+fn extension(register: u32, digest: &[u8]) -> Vec<u8> {
+    sealed(EXTEND, &[&register.to_le_bytes()[..], digest].concat())
+}
+
+#[test]
+fn extension_of_register_4() {
+    let input = request(EXTEND, 0xFFFF_FED2, &[&[4, 0, 0, 0][..], &[0; 48]].concat());
+    assert_eq!(hex(&input[..12]), "45524350d2feffff04000000");
+    writes(&input, &EXTENDED);
+}
+
+#[test]
+fn extension_of_every_register() {
+    let mut random = Random::from_seed(3);
+    for register in 0..40 {
+        let expected: &[u8] = match register {
+            4..=30 => &EXTENDED,
+            _ => &WRONG_REGISTER,
+        };
+        writes(&extension(register, &random.bytes(48)), expected);
+    }
+}
+
+#[test]
+fn register_is_the_whole_number() {
+    for register in [0x104, 0x10004, 0x0400_0000, 0x8000_0004, u32::MAX] {
+        writes(&extension(register, &[9; 48]), &WRONG_REGISTER);
+    }
+}
+
+#[test]
+fn extension_with_a_digest_of_another_length() {
+    for length in [0, 47, 49, 52] {
+        writes(&extension(31, &vec![9; length]), &WRONG_LENGTH);
+    }
+}
+
+#[test]
+fn extension_with_one_bit_changed() {
+    let mut random = Random::from_seed(4);
+    for register in [3, 4, 30, 31] {
+        let mut input = extension(register, &random.bytes(48));
         let at = random.between(4, input.len() - 1);
         input[at] ^= 1 << random.between(0, 7);
         writes(&input, &BAD_CHECKSUM);

@@ -10,10 +10,12 @@ use reference::boots::Inputs;
 
 const STASH: u32 = 0x4D45_4153;
 const DISABLE: u32 = 0x4453_424C;
+const EXTEND: u32 = 0x5043_5245;
 
 /// A number that is more than the stores of any work.
 const ALL: u32 = 10_000;
 
+const REGISTERS: std::ops::Range<usize> = 16..400;
 const FIRST_NODE: usize = 400;
 const NODE_WORDS: usize = 34;
 
@@ -58,8 +60,14 @@ fn stash_arguments(byte: u8) -> Vec<u8> {
     arguments
 }
 
-fn kinds() -> [Kind; 5] {
-    [
+fn extend_arguments(register: u32, byte: u8) -> Vec<u8> {
+    let mut arguments = register.to_le_bytes().to_vec();
+    arguments.extend([byte; 48]);
+    arguments
+}
+
+fn kinds() -> Vec<Kind> {
+    vec![
         Kind {
             name: "a new measurement (stash)",
             before: |s| s,
@@ -69,6 +77,16 @@ fn kinds() -> [Kind; 5] {
             shown: |with, without| with.nodes == without.nodes + 1,
             counted: "the new measurement is in the list",
             lost: "the new measurement is not in the list; all earlier ones are",
+        },
+        Kind {
+            name: "an extension of a register",
+            before: |s| s,
+            skip: |_| (),
+            open: |s| s.request(EXTEND, &extend_arguments(4, 0x44)),
+            left: |r| r.request(),
+            shown: |with, without| with.registers != without.registers,
+            counted: "the register is extended by the digest",
+            lost: "the register is as it was; the digest may be sent again",
         },
         Kind {
             name: "a disable command",
@@ -123,6 +141,7 @@ struct Left {
     outcome: u8,
     on: bool,
     secret_zero: bool,
+    registers: Vec<u32>,
     nodes: usize,
     root: Vec<u32>,
 }
@@ -160,6 +179,7 @@ fn run(kind: &Kind, stores: Option<u32>) -> (u32, Option<Left>) {
         outcome,
         on: image[1] == 1,
         secret_zero: image[4..16].iter().all(|&word| word == 0),
+        registers: image[REGISTERS].to_vec(),
         nodes: (FIRST_NODE..image.len())
             .step_by(NODE_WORDS)
             .filter(|&at| image[at] % 65_536 == 1)
