@@ -367,17 +367,22 @@ fn a_register_is_kept_by_an_update_and_zero_after_a_cold_boot() {
 fn refusals_of_an_extension() {
     let on = fresh();
     let off = switched_off();
+    // Attestation is off by any value but 1.
+    let mut two = fresh();
+    two[1] = 2;
     let mut work = Work::new();
     let before = work.clone();
     for number in [0, 2, 3, 31, 32, 0x104, 0x0400_0000, 0x8000_0004, u32::MAX] {
-        for image in [&on, &off] {
+        for image in [&on, &off, &two] {
             let opened = open_extension(&mut work, image, number, 0x66);
             assert_eq!(opened, Err(Refusal::WrongRegister), "register {number}");
         }
     }
     for number in [4, 30] {
-        let opened = open_extension(&mut work, &off, number, 0x66);
-        assert_eq!(opened, Err(Refusal::AttestationOff), "register {number}");
+        for image in [&off, &two] {
+            let opened = open_extension(&mut work, image, number, 0x66);
+            assert_eq!(opened, Err(Refusal::AttestationOff), "register {number}");
+        }
     }
     let mut bad = extension(31, 0x66);
     bad[55] ^= 1;
