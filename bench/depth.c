@@ -30,7 +30,8 @@ static void (*measured)(void);
 static uint32_t image[WAGGLELOFT_IMAGE_WORDS], work[WAGGLELOFT_WORK_WORDS], outcome;
 static uint8_t runtime[48], manifest[48], secret[48], request[196], handoff[2048], buffer[WAGGLELOFT_ANSWER_LONGEST], message[65535];
 static uint8_t state[WAGGLELOFT_SHA384_STATE_BYTES], whole[WAGGLELOFT_SHA384_BYTES];
-static size_t written;
+static uint32_t code;
+static size_t request_len, written;
 
 /* The first slice of a running digest leaves its bytes waiting; the second fills their block and leaves a rest. */
 #define SHORT_SLICE 100
@@ -56,8 +57,7 @@ static size_t touched(void (*function)(void))
 
 static void cold_boot(void) { CALL(waggleloft_open_cold_boot)(image, WAGGLELOFT_IMAGE_WORDS, runtime, 48, manifest, 48, secret, 48, work, WAGGLELOFT_WORK_WORDS, &outcome); }
 static void update_boot(void) { CALL(waggleloft_open_update_boot)(image, WAGGLELOFT_IMAGE_WORDS, runtime, 48, manifest, 48, secret, 48, true, work, WAGGLELOFT_WORK_WORDS, &outcome); }
-static void stash(void) { CALL(waggleloft_open_request)(image, WAGGLELOFT_IMAGE_WORDS, WAGGLELOFT_STASH_MEASUREMENT, request, 60, 1, handoff, 2048, true, work, WAGGLELOFT_WORK_WORDS); }
-static void identity_key(void) { CALL(waggleloft_open_request)(image, WAGGLELOFT_IMAGE_WORDS, WAGGLELOFT_IDENTITY_KEY, request, 4, 1, handoff, 2048, true, work, WAGGLELOFT_WORK_WORDS); }
+static void open_request(void) { CALL(waggleloft_open_request)(image, WAGGLELOFT_IMAGE_WORDS, code, request, request_len, 1, handoff, 2048, true, work, WAGGLELOFT_WORK_WORDS); }
 static void store(void) { CALL(waggleloft_store)(work, WAGGLELOFT_WORK_WORDS, image, WAGGLELOFT_IMAGE_WORDS); }
 static void left(void) { CALL(waggleloft_left)(work, WAGGLELOFT_WORK_WORDS); }
 static void answer(void) { CALL(waggleloft_answer)(work, WAGGLELOFT_WORK_WORDS, buffer, sizeof buffer, &written); }
@@ -81,12 +81,6 @@ static size_t depth_of(void (*function)(void), void (*caller_of)(void))
 }
 #define DEPTH(function, caller_of) depth_of((void (*)(void))function, caller_of)
 
-static void set_checksum(uint32_t code, size_t len)
-{
-    uint32_t sum = waggleloft_checksum(code, request + 4, len - 4);
-    memcpy(request, &sum, 4);
-}
-
 /* Runs the work in hand to its end; the deepest of its stores. */
 static size_t deepest_store(void)
 {
@@ -96,6 +90,16 @@ static size_t deepest_store(void)
         deepest = one > deepest ? one : deepest;
     }
     return deepest;
+}
+
+/* The opening of a request of a command, of so many bytes. */
+static void show_request(const char *name, uint32_t its_code, size_t len)
+{
+    code = its_code;
+    request_len = len;
+    uint32_t sum = waggleloft_checksum(code, request + 4, len - 4);
+    memcpy(request, &sum, 4);
+    show(name, DEPTH(waggleloft_open_request, open_request));
 }
 
 /* The running digest of two slices; whether it came to the digest of both in one piece. */
@@ -111,7 +115,7 @@ static bool show_running(void)
 
 int main(void)
 {
-    static const uint32_t marker = 0x54484643;
+    static const uint32_t marker = 0x54484643, pcr = WAGGLELOFT_EXTEND_FIRST;
     memset(runtime, 1, sizeof runtime);
     memset(manifest, 3, sizeof manifest);
     memset(secret, 2, sizeof secret);
@@ -119,13 +123,14 @@ int main(void)
     handoff[4] = 1;
     show("waggleloft_open_cold_boot", DEPTH(waggleloft_open_cold_boot, cold_boot));
     show("waggleloft_store, of a cold boot", deepest_store());
-    set_checksum(WAGGLELOFT_STASH_MEASUREMENT, 60);
-    show("waggleloft_open_request, a stash", DEPTH(waggleloft_open_request, stash));
+    show_request("waggleloft_open_request, a stash", WAGGLELOFT_STASH_MEASUREMENT, 60);
     show("waggleloft_store, of a stash", deepest_store());
+    memcpy(request + 4, &pcr, sizeof pcr);
+    show_request("waggleloft_open_request, an extension", WAGGLELOFT_EXTEND_PCR, 56);
+    show("waggleloft_store, of an extension", deepest_store());
     show("waggleloft_open_update_boot", DEPTH(waggleloft_open_update_boot, update_boot));
     show("waggleloft_store, of an update", deepest_store());
-    set_checksum(WAGGLELOFT_IDENTITY_KEY, 4);
-    show("waggleloft_open_request, the identity key", DEPTH(waggleloft_open_request, identity_key));
+    show_request("waggleloft_open_request, the identity key", WAGGLELOFT_IDENTITY_KEY, 4);
     show("waggleloft_answer, of 104 bytes", DEPTH(waggleloft_answer, answer));
     show("waggleloft_left", DEPTH(waggleloft_left, left));
     show("waggleloft_sha384, of 65,535 bytes", DEPTH(waggleloft_sha384, sha384));

@@ -107,6 +107,8 @@ size_t waggleloft_sha384_state_bytes(void);
 #define WAGGLELOFT_NO_STORE_LEFT UINT32_C(9)    /* the work has no store left */
 #define WAGGLELOFT_LONG_MESSAGE UINT32_C(10)    /* message or slice longer than 65,535 bytes */
 #define WAGGLELOFT_NOT_WELL_FORMED UINT32_C(11) /* the image's nodes are not well formed (stash) */
+#define WAGGLELOFT_WRONG_REGISTER UINT32_C(12)  /* the register is none of PCR4 to PCR30 (extend) */
+#define WAGGLELOFT_ATTESTATION_OFF UINT32_C(13) /* attestation is off (extend) */
 #define WAGGLELOFT_LONG_TOTAL UINT32_C(16)      /* all slices together would pass 2^32 - 1 bytes */
 #define WAGGLELOFT_WRONG_COUNTS UINT32_C(27)    /* the state's counts disagree, or its total is too large */
 #define WAGGLELOFT_WRONG_WORK UINT32_C(28)      /* the work is not WAGGLELOFT_WORK_WORDS words */
@@ -127,6 +129,20 @@ size_t waggleloft_sha384_state_bytes(void);
 #define WAGGLELOFT_DISABLE_ATTESTATION UINT32_C(0x4453424C)
 #define WAGGLELOFT_IDENTITY_KEY UINT32_C(0x49444549)
 #define WAGGLELOFT_VERIFY_SIGNATURE UINT32_C(0x53494756)
+
+/*
+ * Extends a register by a digest: it takes SHA-384 of its old 48 bytes and the
+ * digest joined. The request is 56 bytes: checksum 4, the register's number 4
+ * (lowest byte first), digest 48. The answer is 8 bytes: checksum and status.
+ */
+#define WAGGLELOFT_EXTEND_PCR UINT32_C(0x50435245)
+
+/*
+ * The first and the last register that EXTEND_PCR extends. PCR r is the twelve
+ * words of the image from word 16 + 12 * r on, a word's lowest byte first.
+ */
+#define WAGGLELOFT_EXTEND_FIRST UINT32_C(4)
+#define WAGGLELOFT_EXTEND_LAST UINT32_C(30)
 
 /* ---- Openings ---- */
 
@@ -183,10 +199,12 @@ uint32_t waggleloft_open_update_boot(const uint32_t *image, size_t image_len,
  * Handed back, the first that applies: WAGGLELOFT_WRONG_WORK,
  * WAGGLELOFT_WRONG_IMAGE, WAGGLELOFT_UNFINISHED, WAGGLELOFT_UNKNOWN_CODE,
  * WAGGLELOFT_WRONG_LENGTH, WAGGLELOFT_BAD_CHECKSUM; then the command's own:
- * WAGGLELOFT_WRONG_HANDOFF, WAGGLELOFT_BAD_SIGNATURE or
- * WAGGLELOFT_NOT_WELL_FORMED; otherwise WAGGLELOFT_OK, and work is the
+ * WAGGLELOFT_WRONG_HANDOFF, WAGGLELOFT_BAD_SIGNATURE,
+ * WAGGLELOFT_NOT_WELL_FORMED, or WAGGLELOFT_WRONG_REGISTER before
+ * WAGGLELOFT_ATTESTATION_OFF; otherwise WAGGLELOFT_OK, and work is the
  * request's work. A stash that is declined is accepted as a request: its work
- * has nothing to store, and its answer says why.
+ * has nothing to store, and its answer says why. An extension is never
+ * declined: with attestation off it is refused.
  *
  * The image is only read. If the request is refused, work stays as it was.
  */

@@ -41,26 +41,33 @@ request() { # CODE LENGTH REQUEST
 stores() { printf S && u32 "$1"; }
 all() { stores 10000; }
 
-# Zero minus the sum of the code's bytes and of a digest of 48 equal bytes.
-stash() { # BYTE
-    local sum=$((0x4D + 0x45 + 0x41 + 0x53 + 48 * $1))
-    request 0x4D454153 60 "$(u32 $((0x100000000 - sum)))$(repeat 4 0)$(repeat 48 "$1")$(repeat 4 0)"
+# A request with its checksum: zero minus the sum of the code's bytes and of the arguments' bytes.
+sealed() { # CODE LENGTH SUM ARGUMENTS: SUM is that of the arguments' bytes
+    local sum=$((($1 >> 24) + ($1 >> 16 & 255) + ($1 >> 8 & 255) + ($1 & 255) + $3))
+    request "$1" "$2" "$(u32 $((0x100000000 - sum)))$4"
 }
-disable() { request 0x4453424C 4 "$(u32 0xFFFFFEDB)"; }
+stash() { # BYTE: the digest is 48 of it
+    sealed 0x4D454153 60 $((48 * $1)) "$(repeat 4 0)$(repeat 48 "$1")$(repeat 4 0)"
+}
 extend() { # REGISTER BYTE
-    local sum=$((0x50 + 0x43 + 0x52 + 0x45 + $1 + 48 * $2))
-    request 0x50435245 56 "$(u32 $((0x100000000 - sum)))$(u32 "$1")$(repeat 48 "$2")"
+    sealed 0x50435245 56 $(($1 + 48 * $2)) "$(u32 "$1")$(repeat 48 "$2")"
 }
+disable() { sealed 0x4453424C 4 0 ''; }
 
-# ---- the kinds of work: what is done before, how it is opened, and the length of both replies
+# ---- the kinds of work, a line each
 
-names=('a new measurement' 'an extended register' 'an update' 'a disable command' 'a boot that switches off'
-    'a cold boot (a new list)')
+names=() replies=() opening=() before=()
+kind() { # NAME REPLIES OPENING [BEFORE]: the length of the replies to BEFORE, what is done first, and to OPENING
+    names+=("$1") replies+=("$2") opening+=("$3") before+=("${4:-}")
+}
 unit=$(cold_boot 0x11 0x33 0x22 && all && stash 0x33 && all)
-before=('' '' '' '' "$(disable && all)" '')
 update=$(update_boot 0x55 0x99 0x66 1)
-opening=("$(stash 0x44)" "$(extend 4 0x44)" "$update" "$(disable)" "$update" "$(cold_boot 0x77 0xAA 0x88)")
-replies=(8 8 9 8 25 9)
+kind 'a new measurement' 8 "$(stash 0x44)"
+kind 'an extended register' 8 "$(extend 4 0x44)"
+kind 'an update' 9 "$update"
+kind 'a disable command' 8 "$(disable)"
+kind 'a boot that switches off' 25 "$update" "$(disable && all)"
+kind 'a cold boot (a new list)' 9 "$(cold_boot 0x77 0xAA 0x88)"
 reboot=X$(update_boot 0x11 0x33 0x22 0 && all)D
 
 # The last four bytes of a number's reply, as a number.
@@ -117,11 +124,10 @@ draw() {
         BEGIN {
             colour["on"] = "#2e8b57"; colour["torn"] = "#c0392b"; colour["asked"] = "#8a8f98"
             left = 190; wide = 540; narrow = 90; top = 52; step = 62
-            high = top + step * rows + 38
-            size = "width=\"760\" height=\"" high "\""
-            print "<svg xmlns=\"http://www.w3.org/2000/svg\" " size " viewBox=\"0 0 760 " high "\" font-family=\"sans-serif\" font-size=\"13\">"
+            height = top + step * rows + 38
+            print "<svg xmlns=\"http://www.w3.org/2000/svg\" width=\"760\" height=\"" height "\" viewBox=\"0 0 760 " height "\" font-family=\"sans-serif\" font-size=\"13\">"
             print "<title>What a power cut after each store leaves, after the next update boot</title>"
-            print "<rect " size " fill=\"#ffffff\"/>"
+            print "<rect width=\"760\" height=\"" height "\" fill=\"#ffffff\"/>"
             print "<text x=\"12\" y=\"24\" font-size=\"15\" font-weight=\"bold\">The power is cut after this many stores of</text>"
         }
         function text(x, y, words, anchor) {

@@ -176,16 +176,20 @@ expect 'a refusal in words' \
 { printf 'SAEM\xda\xfe\xff\xff' && head -c 56 /dev/zero; } >stash
 expect 'a dpe result in words' 'Its dpe result is 0 (the measurement was taken).' \
     "$("$root/demo" request stash 2>/dev/null | tail -n 1)"
-{ printf 'ERCP\xb8\xfe\xff\xff\x1e' && head -c 51 /dev/zero; } >extension
-expect 'an extension in words' 'The command code is 0x50435245: extend a register.' \
-    "$("$root/demo" request extension 2>/dev/null | grep command)"
-expect 'an accepted extension in words' \
-    'The result is 0 (accepted). The answer of 8 bytes has the checksum 0x00000000 and FIPS status 0 (always 0).' \
-    "$("$root/demo" request extension 2>/dev/null | tail -n 1)"
-{ printf 'ERCP\xb7\xfe\xff\xff\x1f' && head -c 51 /dev/zero; } >outside
-expect 'a register outside in words' \
-    'The result is 12 (0xC, refused: the register is none of 4 to 30): nothing was stored, and there is no answer.' \
-    "$("$root/demo" request outside 2>/dev/null | tail -n 1)"
+# An extension by 48 zero bytes, and what the demo says of it first and last.
+extension() { # CHECKSUM REGISTER: the lowest byte of each
+    # shellcheck disable=SC2059
+    { printf "ERCP\\x$1\xfe\xff\xff\\x$2\0\0\0" && head -c 48 /dev/zero; } >extension
+    "$root/demo" request extension 2>/dev/null | sed -n '3p;$p'
+}
+expect 'an extension in words' \
+    'The command code is 0x50435245: extend a register.
+The result is 0 (accepted). The answer of 8 bytes has the checksum 0x00000000 and FIPS status 0 (always 0).' \
+    "$(extension d2 04)"
+expect 'a register that is not extended in words' \
+    'The command code is 0x50435245: extend a register.
+The result is 12 (0xC, refused: the register is none of PCR4 to PCR30): nothing was stored, and there is no answer.' \
+    "$(extension b7 1f)"
 printf AB >short
 expect 'a short request in words' \
     'The result is 3 (0x3, refused: unknown command code): nothing was stored, and there is no answer.' \

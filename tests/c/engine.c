@@ -1,10 +1,10 @@
 /*
- * Calls the engine of include/waggleloft.h from C: every cut of a stash, every
- * refusal, what a boot measures, works of other lengths, and works with damaged
- * words. What a store has to do is computed here from the table of stores, not
- * asked of the engine. Every buffer is on the heap with its exact length, so
- * that valgrind sees a byte too many. Prints a line for each check that failed
- * and, last, 'N passed, M failed'.
+ * Calls the engine of include/waggleloft.h from C: every cut of a stash and of an
+ * extension, every refusal, what a boot and an extension measure, works of other
+ * lengths, and works with damaged words. What a store has to do is computed here
+ * from a table of the kinds of work (KINDS), not asked of the engine. Every
+ * buffer is on the heap with its exact length, so that valgrind sees a byte too
+ * many. Prints a line for each check that failed and, last, 'N passed, M failed'.
  */
 #include "waggleloft.h"
 
@@ -23,9 +23,79 @@
 /* Where each field of a work stands in its words: docs/DECISIONS.md, "C and Rust". */
 enum { KIND_IN = 0, FIRST_IN = 1, SECOND_IN = 3, POSITION_IN = 5, LENGTH_IN = 7, REGISTER_IN = 9, JOURNEY_IN = 21, NODE_IN = 33, SECRET_IN = 67 };
 
-enum { NOTHING, DISABLING, STASH, UPDATE, COLD };
+/* Words of the image: a register's first, and the first of node 0 and of node 1. */
+#define PCR(number) (16 + 12 * (number))
+#define NODE_0 400
+#define NODE_1 434
 
-static const uint64_t STORES[] = {0, 15, 53, 62, 1217};
+/* ---- the kinds of work ---- */
+
+/*
+ * A run of stores: how many; the first word of it, to which comes `each` times the work's number at `by`
+ * (0: no number of it); where its values stand in the work (0: each is `value`).
+ */
+struct run {
+    uint64_t stores, at, each;
+    size_t by, from;
+    uint32_t value;
+};
+
+/* What a number of the work may be. */
+struct bounds {
+    uint64_t least, most;
+};
+
+/* A kind of work: its stores, what its two numbers may be, how it is opened on a unit that is on, its runs. */
+struct kind {
+    const char *name;
+    size_t stores;
+    struct bounds first, second;
+    bool (*open)(void);
+    struct run runs[12];
+};
+
+static bool open_kept(void), open_disabling(void), open_stash(void), open_update(void), open_cold(void), open_extension(void);
+
+#define ANY {0, UINT64_MAX}
+#define A_NODE {0, 23}
+#define SAME(stores, at, value) {stores, at, 0, 0, 0, value}
+#define COPY(stores, at, from) {stores, at, 0, 0, from, 0}
+#define BEGIN SAME(1, 0, 0)
+#define END SAME(1, 0, 1)
+
+/* The one place that knows the kinds, each at its number. */
+enum { NOTHING, DISABLING, STASH, UPDATE, COLD, EXTENSION, NO_KIND };
+static const struct kind KINDS[NO_KIND] = {
+    [NOTHING] = {"a kept boot", 0, ANY, ANY, open_kept, {SAME(0, 0, 0)}},
+    [DISABLING] = {"a disabling", 15, ANY, ANY, open_disabling, {BEGIN, SAME(1, 1, 0), SAME(12, 4, 0), END}},
+    [STASH] = {"a stash", 53, A_NODE, A_NODE, open_stash,
+               {BEGIN, COPY(12, PCR(31), REGISTER_IN), {34, NODE_0, 34, FIRST_IN, NODE_IN, 0},
+                {5, NODE_0 + 2, 34, SECOND_IN, 0, UINT32_MAX}, END}},
+    [UPDATE] = {"an update", 62, A_NODE, ANY, open_update,
+                {BEGIN, COPY(12, PCR(2), REGISTER_IN), COPY(12, PCR(3), JOURNEY_IN), COPY(12, 4, SECRET_IN),
+                 {12, NODE_0 + 8, 34, FIRST_IN, NODE_IN + 8, 0}, {12, NODE_0 + 20, 34, FIRST_IN, NODE_IN + 20, 0}, END}},
+    [COLD] = {"a cold boot", 1217, ANY, ANY, open_cold,
+              {BEGIN, SAME(1, 1, 1), SAME(2, 2, 0), COPY(12, 4, SECRET_IN), SAME(24, PCR(0), 0), COPY(12, PCR(2), REGISTER_IN),
+               COPY(12, PCR(3), JOURNEY_IN), SAME(336, PCR(4), 0), COPY(34, NODE_0, NODE_IN), SAME(782, NODE_1, 0), END}},
+    [EXTENSION] = {"an extension", 14, {4, 30}, ANY, open_extension, {BEGIN, {12, PCR(0), 12, FIRST_IN, REGISTER_IN, 0}, END}},
+};
+
+/* The works of requests that leave attestation on: the answer's bytes, and a word that is 0 until the work has counted. */
+#define EXTENDED 17
+static const struct {
+    uint32_t kind;
+    size_t answer, shown;
+} ANSWERED[] = {{STASH, 12, NODE_1}, {EXTENSION, 8, PCR(EXTENDED)}};
+
+/* Each command's code and its request's bytes. */
+static const struct {
+    uint32_t code;
+    size_t len;
+} COMMANDS[] = {{WAGGLELOFT_STASH_MEASUREMENT, 60}, {WAGGLELOFT_DISABLE_ATTESTATION, 4}, {WAGGLELOFT_IDENTITY_KEY, 4},
+                {WAGGLELOFT_VERIFY_SIGNATURE, 196}, {WAGGLELOFT_EXTEND_PCR, 56}};
+#define LONGEST_REQUEST 196
+
+#define COUNT(array) (sizeof(array) / sizeof *(array))
 
 /* ---- buffers ---- */
 
@@ -66,15 +136,39 @@ static uint32_t update_boot(bool verdict, uint32_t *outcome)
     return waggleloft_open_update_boot(image, IMAGE, runtime, DIGEST, manifest, DIGEST, secret, DIGEST, verdict, work, WORK, outcome);
 }
 
+/* A number into four bytes of the request, lowest first. */
+static void put_number(size_t at, uint32_t number)
+{
+    for (size_t i = 0; i < 4; i++)
+        request[at + i] = (uint8_t)(number >> (8 * i) & 0xFFU);
+}
+
+static void set_checksum(uint32_t code, size_t len) { put_number(0, waggleloft_checksum(code, request + 4, len - 4)); }
+
+/* Opens a request of the first `len` bytes as they are; behind them zeros where there are no more. */
+static uint32_t ask_as_is(uint32_t code, size_t len, const uint8_t *handoff, size_t handoff_len, bool verdict)
+{
+    uint8_t *bytes = lent(len, 1);
+    memcpy(bytes, request, len < LONGEST_REQUEST ? len : LONGEST_REQUEST);
+    uint32_t number = waggleloft_open_request(image, IMAGE, code, bytes, len, 7, handoff, handoff_len, verdict, work, WORK);
+    free(bytes);
+    return number;
+}
+
 static uint32_t ask_with(uint32_t code, size_t len, const uint8_t *handoff, size_t handoff_len, bool verdict)
 {
-    uint32_t sum = waggleloft_checksum(code, request + 4, len - 4);
-    for (size_t i = 0; i < 4; i++)
-        request[i] = (uint8_t)(sum >> (8 * i) & 0xFFU);
-    return waggleloft_open_request(image, IMAGE, code, request, len, 7, handoff, handoff_len, verdict, work, WORK);
+    set_checksum(code, len);
+    return ask_as_is(code, len, handoff, handoff_len, verdict);
 }
 
 static uint32_t ask(uint32_t code, size_t len) { return ask_with(code, len, none, 0, false); }
+
+/* Extends a register by the digest that stands in the request. */
+static uint32_t extend(uint32_t number)
+{
+    put_number(4, number);
+    return ask(WAGGLELOFT_EXTEND_PCR, 56);
+}
 
 static size_t run(size_t most)
 {
@@ -88,67 +182,59 @@ static size_t run(size_t most)
 static void fresh(void)
 {
     uint32_t outcome = 99;
-    if (cold_boot(&outcome) != WAGGLELOFT_OK || run(SIZE_MAX) != 1217)
+    if (cold_boot(&outcome) != WAGGLELOFT_OK || run(SIZE_MAX) != KINDS[COLD].stores)
         check(false, "a cold boot runs");
 }
 
-/* ---- what a store has to do, from the table of stores ---- */
+/* The openings of each kind; whether they were accepted. */
+static bool boots(uint32_t number, uint32_t outcome, uint32_t expected) { return number == WAGGLELOFT_OK && outcome == expected; }
+
+static bool open_cold(void)
+{
+    uint32_t outcome = 99, number = cold_boot(&outcome);
+    return boots(number, outcome, WAGGLELOFT_COLD);
+}
+
+static bool open_update(void)
+{
+    uint32_t outcome = 99, number = update_boot(true, &outcome);
+    return boots(number, outcome, WAGGLELOFT_UPDATED);
+}
+
+static bool open_kept(void)
+{
+    uint32_t outcome = 99, number = update_boot(false, &outcome);
+    return boots(number, outcome, WAGGLELOFT_KEPT);
+}
+
+static bool open_stash(void) { return ask(WAGGLELOFT_STASH_MEASUREMENT, 60) == WAGGLELOFT_OK; }
+static bool open_disabling(void) { return ask(WAGGLELOFT_DISABLE_ATTESTATION, 4) == WAGGLELOFT_OK; }
+static bool open_extension(void) { return extend(EXTENDED) == WAGGLELOFT_OK; }
+
+/* ---- what a store has to do, from the table of kinds ---- */
 
 static uint64_t two(size_t at) { return work_before[at] + ((uint64_t)work_before[at + 1] << 32); }
+
+static bool within(struct bounds bounds, uint64_t number) { return bounds.least <= number && number <= bounds.most; }
 
 static bool well_shaped(void)
 {
     uint32_t kind = work_before[KIND_IN];
-    if (kind > COLD)
-        return false;
-    if (kind == STASH && (two(FIRST_IN) >= 24 || two(SECOND_IN) >= 24))
-        return false;
-    if (kind == UPDATE && two(FIRST_IN) >= 24)
-        return false;
-    return two(LENGTH_IN) <= LONGEST && two(POSITION_IN) <= STORES[kind];
+    return kind < NO_KIND && within(KINDS[kind].first, two(FIRST_IN)) && within(KINDS[kind].second, two(SECOND_IN)) &&
+           two(LENGTH_IN) <= LONGEST && two(POSITION_IN) <= KINDS[kind].stores;
 }
 
-static uint64_t left(void) { return well_shaped() ? STORES[work_before[KIND_IN]] - two(POSITION_IN) : 0; }
-
-/* A run of stores: how many, the first word, and where its values stand in the work; 0: `value` itself. */
-struct run {
-    uint64_t stores, at;
-    size_t from;
-    uint32_t value;
-};
-
-/* The runs of a kind of work; the last has no stores. */
-static void row(uint32_t kind, struct run runs[16])
-{
-    uint64_t first = 400 + 34 * (two(FIRST_IN) % 24), second = 400 + 34 * (two(SECOND_IN) % 24);
-    const struct run stash[] = {{1, 0, 0, 0}, {12, 16 + 12 * 31, REGISTER_IN, 0}, {34, first, NODE_IN, 0},
-                                {5, second + 2, 0, UINT32_MAX}, {1, 0, 0, 1}, {0, 0, 0, 0}};
-    const struct run disabling[] = {{1, 0, 0, 0}, {1, 1, 0, 0}, {12, 4, 0, 0}, {1, 0, 0, 1}, {0, 0, 0, 0}};
-    const struct run update[] = {{1, 0, 0, 0}, {12, 40, REGISTER_IN, 0}, {12, 52, JOURNEY_IN, 0}, {12, 4, SECRET_IN, 0},
-                                 {12, first + 8, NODE_IN + 8, 0}, {12, first + 20, NODE_IN + 20, 0}, {1, 0, 0, 1}, {0, 0, 0, 0}};
-    const struct run cold[] = {{1, 0, 0, 0}, {1, 1, 0, 1}, {2, 2, 0, 0}, {12, 4, SECRET_IN, 0}, {24, 16, 0, 0},
-                               {12, 40, REGISTER_IN, 0}, {12, 52, JOURNEY_IN, 0}, {336, 64, 0, 0}, {34, 400, NODE_IN, 0},
-                               {782, 434, 0, 0}, {1, 0, 0, 1}, {0, 0, 0, 0}};
-    if (kind == STASH)
-        memcpy(runs, stash, sizeof stash);
-    else if (kind == DISABLING)
-        memcpy(runs, disabling, sizeof disabling);
-    else if (kind == UPDATE)
-        memcpy(runs, update, sizeof update);
-    else
-        memcpy(runs, cold, sizeof cold);
-}
+static uint64_t left(void) { return well_shaped() ? KINDS[work_before[KIND_IN]].stores - two(POSITION_IN) : 0; }
 
 /* Makes the store in image_before and work_before. */
 static void expected_store(void)
 {
-    struct run runs[16];
     uint64_t k = two(POSITION_IN), moved = k + 1;
-    size_t i = 0;
-    row(work_before[KIND_IN], runs);
-    while (runs[i].stores != 0 && k >= runs[i].stores)
-        k -= runs[i++].stores;
-    image_before[runs[i].at + k] = runs[i].from != 0 ? work_before[runs[i].from + k] : runs[i].value;
+    const struct run *run = KINDS[work_before[KIND_IN]].runs;
+    for (; k >= run->stores; run++)
+        k -= run->stores;
+    uint64_t at = run->at + (run->by != 0 ? run->each * two(run->by) : 0);
+    image_before[at + k] = run->from != 0 ? work_before[run->from + k] : run->value;
     work_before[POSITION_IN] = (uint32_t)(moved & UINT32_MAX);
     work_before[POSITION_IN + 1] = (uint32_t)(moved >> 32);
 }
@@ -173,6 +259,25 @@ static void check_sizes(void)
     check(waggleloft_image_words() == IMAGE, "the archive's words of an image are the header's");
 }
 
+/* A check whose name tells the kind of work too. */
+static void check_kind(bool holds, const char *what, uint32_t kind)
+{
+    char name[80];
+    (void)snprintf(name, sizeof name, "%s %s", what, KINDS[kind].name);
+    check(holds, name);
+}
+
+/* The runs of every kind make its stores, so that a store's run is always found. */
+static void check_table(void)
+{
+    for (uint32_t kind = 0; kind < NO_KIND; kind++) {
+        uint64_t sum = 0;
+        for (size_t i = 0; i < COUNT(KINDS[kind].runs); i++)
+            sum += KINDS[kind].runs[i].stores;
+        check_kind(sum == KINDS[kind].stores, "the runs of", kind);
+    }
+}
+
 static bool erased(void)
 {
     for (size_t i = 4; i < 16; i++)
@@ -181,58 +286,48 @@ static bool erased(void)
     return true;
 }
 
-/* A stash cut after `cut` stores, then an update boot: on and whole, or off with the secret erased. */
-static bool cut_holds(size_t cut)
+/* A work cut after `cut` stores, then an update boot: on and whole, or off with the secret erased. */
+static bool cut_holds(size_t which, size_t cut)
 {
     uint32_t outcome = 99;
-    size_t written = 99;
+    size_t written = 99, all = KINDS[ANSWERED[which].kind].stores;
     fresh();
-    if (ask(WAGGLELOFT_STASH_MEASUREMENT, 60) != WAGGLELOFT_OK || waggleloft_left(work, WORK) != 53 || run(cut) != cut)
+    if (!KINDS[ANSWERED[which].kind].open() || waggleloft_left(work, WORK) != all || run(cut) != cut)
         return false;
     uint32_t answered = waggleloft_answer(work, WORK, buffer, LONGEST, &written);
-    if (cut == 53 ? answered != WAGGLELOFT_OK || written != 12 : answered != WAGGLELOFT_STORES_LEFT || written != 99)
+    if (cut == all ? answered != WAGGLELOFT_OK || written != ANSWERED[which].answer
+                   : answered != WAGGLELOFT_STORES_LEFT || written != 99)
         return false;
     if (update_boot(true, &outcome) != WAGGLELOFT_OK)
         return false;
-    bool on = cut == 0 || cut == 53;
+    bool on = cut == 0 || cut == all;
     size_t stores = run(SIZE_MAX);
-    bool counted = image[400 + 34] != 0;
-    return on ? outcome == WAGGLELOFT_UPDATED && stores == 62 && image[1] == 1 && !erased() && counted == (cut == 53)
-              : outcome == WAGGLELOFT_DISABLED && stores == 15 && image[1] == 0 && erased();
+    bool counted = image[ANSWERED[which].shown] != 0;
+    return on ? outcome == WAGGLELOFT_UPDATED && stores == KINDS[UPDATE].stores && image[1] == 1 && !erased() && counted == (cut == all)
+              : outcome == WAGGLELOFT_DISABLED && stores == KINDS[DISABLING].stores && image[1] == 0 && erased();
 }
 
 static void check_cuts(void)
 {
-    bool all = true;
-    for (size_t cut = 0; cut <= 53; cut++)
-        all = cut_holds(cut) && all;
-    check(all, "every cut of a stash");
+    for (size_t i = 0; i < COUNT(ANSWERED); i++) {
+        bool all = true;
+        for (size_t cut = 0; cut <= KINDS[ANSWERED[i].kind].stores; cut++)
+            all = cut_holds(i, cut) && all;
+        check_kind(all, "every cut of", ANSWERED[i].kind);
+    }
 }
 
-/* Every store of every kind of work. */
+/* Every store of every kind of work, one work after the other; the disabling last, as it switches off. */
 static void check_stores(void)
 {
-    uint32_t outcome = 99;
-    bool all = true;
+    static const uint32_t order[] = {COLD, STASH, EXTENSION, UPDATE, NOTHING, DISABLING};
     fill_words(image, IMAGE);
-    all = cold_boot(&outcome) == WAGGLELOFT_OK && outcome == WAGGLELOFT_COLD && all;
-    for (size_t i = 0; i <= 1217; i++)
-        all = store_holds() && all;
-    check(all, "every store of a cold boot");
-    all = ask(WAGGLELOFT_STASH_MEASUREMENT, 60) == WAGGLELOFT_OK;
-    for (size_t i = 0; i <= 53; i++)
-        all = store_holds() && all;
-    check(all, "every store of a stash");
-    all = update_boot(true, &outcome) == WAGGLELOFT_OK && outcome == WAGGLELOFT_UPDATED;
-    for (size_t i = 0; i <= 62; i++)
-        all = store_holds() && all;
-    check(all, "every store of an update");
-    all = update_boot(false, &outcome) == WAGGLELOFT_OK && outcome == WAGGLELOFT_KEPT;
-    check(all && store_holds(), "a kept boot stores nothing");
-    all = ask(WAGGLELOFT_DISABLE_ATTESTATION, 4) == WAGGLELOFT_OK;
-    for (size_t i = 0; i <= 15; i++)
-        all = store_holds() && all;
-    check(all, "every store of a disabling");
+    for (size_t k = 0; k < COUNT(order); k++) {
+        bool all = KINDS[order[k]].open() && work[KIND_IN] == order[k];
+        for (size_t i = 0; i <= KINDS[order[k]].stores; i++)
+            all = store_holds() && all;
+        check_kind(all, "every store of", order[k]);
+    }
 }
 
 /* An answer refused leaves all; an answer given is in the front of the buffer. */
@@ -255,16 +350,18 @@ static bool answer_holds(size_t len, uint32_t number, size_t length)
 
 static void check_answers(void)
 {
-    bool all = true;
     fresh();
     check(answer_holds(0, WAGGLELOFT_OK, 0), "a boot's answer has no bytes");
-    all = ask(WAGGLELOFT_STASH_MEASUREMENT, 60) == WAGGLELOFT_OK;
-    for (size_t len = 0; len <= 20; len++)
-        all = answer_holds(len, WAGGLELOFT_STORES_LEFT, 0) && all;
-    run(SIZE_MAX);
-    for (size_t len = 0; len <= 20; len++)
-        all = answer_holds(len, len < 12 ? WAGGLELOFT_SHORT_BUFFER : WAGGLELOFT_OK, 12) && all;
-    check(all, "the answer of a stash into buffers of every length");
+    for (size_t i = 0; i < COUNT(ANSWERED); i++) {
+        size_t answer = ANSWERED[i].answer;
+        bool all = KINDS[ANSWERED[i].kind].open();
+        for (size_t len = 0; len <= 20; len++)
+            all = answer_holds(len, WAGGLELOFT_STORES_LEFT, 0) && all;
+        run(SIZE_MAX);
+        for (size_t len = 0; len <= 20; len++)
+            all = answer_holds(len, len < answer ? WAGGLELOFT_SHORT_BUFFER : WAGGLELOFT_OK, answer) && all;
+        check_kind(all, "buffers of every length for the answer of", ANSWERED[i].kind);
+    }
 }
 
 /* All stores of the work in hand are made, and its answer is exactly these bytes. */
@@ -287,14 +384,14 @@ static void check_answer_bytes(void)
     memset(handoff + 352, 2, 48); /* Y: 96, so 0x90 with X */
     memcpy(key + 8, handoff + 304, 96);
     fresh();
-    check(ask(WAGGLELOFT_STASH_MEASUREMENT, 60) == WAGGLELOFT_OK && answers(zeros, 12), "an accepted stash's answer");
+    check(open_stash() && answers(zeros, 12), "an accepted stash's answer");
+    check(open_extension() && answers(zeros, 8), "an extension's answer");
     check(ask_with(WAGGLELOFT_IDENTITY_KEY, 4, handoff, sizeof handoff, false) == WAGGLELOFT_OK && answers(key, LONGEST),
           "an identity key's answer");
     check(ask_with(WAGGLELOFT_VERIFY_SIGNATURE, 196, none, 0, true) == WAGGLELOFT_OK && answers(zeros, 8),
           "a signature's answer");
-    check(ask(WAGGLELOFT_DISABLE_ATTESTATION, 4) == WAGGLELOFT_OK && answers(zeros, 8), "a disable command's answer");
-    check(ask(WAGGLELOFT_STASH_MEASUREMENT, 60) == WAGGLELOFT_OK && answers(off, 12),
-          "card 4: the answer of a stash while off");
+    check(open_disabling() && answers(zeros, 8), "a disable command's answer");
+    check(open_stash() && answers(off, 12), "card 4: the answer of a stash while off");
 }
 
 /* Works of other lengths: their own number, before a boot's inputs are looked at, and nothing is written. */
@@ -331,11 +428,10 @@ static void check_work_lengths(void)
 static void check_image_lengths(void)
 {
     static const size_t lengths[] = {0, 1, 2, 399, IMAGE - 1, IMAGE + 1, 2 * IMAGE};
-    bool all = true;
     uint32_t outcome = 99;
     fresh();
-    all = ask(WAGGLELOFT_STASH_MEASUREMENT, 60) == WAGGLELOFT_OK;
-    for (size_t i = 0; i < sizeof lengths / sizeof *lengths; i++) {
+    bool all = open_stash();
+    for (size_t i = 0; i < COUNT(lengths); i++) {
         size_t len = lengths[i];
         uint32_t *words = lent(len, sizeof *words), *before = lent(len, sizeof *before);
         fill_words(words, len);
@@ -398,10 +494,10 @@ static void check_refused_boots(void)
     fresh();
     check(would(true, WAGGLELOFT_UPDATED) && would(false, WAGGLELOFT_KEPT) && wrong_inputs_refused(),
           "wrong inputs get 6 where a boot would update or be kept");
-    check(ask(WAGGLELOFT_STASH_MEASUREMENT, 60) == WAGGLELOFT_OK && run(20) == 20, "a stash is under way");
+    check(open_stash() && run(20) == 20, "a stash is under way");
     check(would(true, WAGGLELOFT_DISABLED) && would(false, WAGGLELOFT_DISABLED) && wrong_inputs_refused(),
           "wrong inputs get 6 where a boot would disable, and leave the work in hand");
-    check(run(SIZE_MAX) == 33, "which goes on");
+    check(run(SIZE_MAX) == KINDS[STASH].stores - 20, "which goes on");
 }
 
 /* A cold boot and an update with these digests run to their end. */
@@ -409,9 +505,9 @@ static bool boots_run(const uint8_t *r, const uint8_t *m)
 {
     uint32_t outcome = 99;
     return waggleloft_open_cold_boot(image, IMAGE, r, DIGEST, m, DIGEST, secret, DIGEST, work, WORK, &outcome) == WAGGLELOFT_OK &&
-           outcome == WAGGLELOFT_COLD && run(SIZE_MAX) == 1217 &&
+           outcome == WAGGLELOFT_COLD && run(SIZE_MAX) == KINDS[COLD].stores &&
            waggleloft_open_update_boot(image, IMAGE, r, DIGEST, m, DIGEST, secret, DIGEST, true, work, WORK, &outcome) == WAGGLELOFT_OK &&
-           outcome == WAGGLELOFT_UPDATED && run(SIZE_MAX) == 62;
+           outcome == WAGGLELOFT_UPDATED && run(SIZE_MAX) == KINDS[UPDATE].stores;
 }
 
 static void check_accepted_boots(void)
@@ -427,7 +523,7 @@ static void check_accepted_boots(void)
 }
 
 /*
- * What boots measure, from GNU sha384sum:
+ * What boots and extensions measure, from GNU sha384sum:
  *
  *     x48() { printf "%.0s$1" $(seq 48); }
  *     extend() { printf %b "$(sed 's/../\\x&/g' <<<"$1$2")" | sha384sum | cut -d' ' -f1; }
@@ -438,6 +534,8 @@ static void check_accepted_boots(void)
  *     UPDATE_PCR2=$(extend "$(extend "$zero" "$(x48 44)")" "$(x48 55)")
  *     UPDATE_PCR3=$(extend "$(extend "$COLD_PCR" "$(x48 44)")" "$(x48 55)")
  *     UPDATE_CUMULATIVE=$(extend "$COLD_CUMULATIVE" "$UPDATE_PCR3")
+ *     EXTENDED_ONCE=$(extend "$zero" "$(x48 66)")
+ *     EXTENDED_TWICE=$(extend "$EXTENDED_ONCE" "$(x48 77)")
  *
  * and on an image from before the manifest, whose cold boot measured the runtime alone:
  *
@@ -464,6 +562,12 @@ static void check_accepted_boots(void)
 #define UPDATE_CUMULATIVE \
     "0e4d7d59faa9d4d50dfba67ac56466f1edec54f8c7aa2dd5" \
     "1318b221a41e0386b9c870c2ee7478c44752a27ef9ea411b"
+#define EXTENDED_ONCE \
+    "698aa835f229bcdf213933d7c8e1c2fa58c51fd9aa0680eb" \
+    "63bc13d039dee5e8d41f7fd033da6f8079cc1c9c5da2c49b"
+#define EXTENDED_TWICE \
+    "f91a2bdf761107e2b2787ce2d9fa2fcc279d1808535bca1e" \
+    "97f9091dc5efa489227946767b530c118c2179665438164d"
 #define EARLIER_PCR \
     "c7304e0aec48bbbc703c099b425485b7a60e19b6a83630b0" \
     "fb558ce2f02ec41e4cdf205335b4b613b3537ad83eb62262"
@@ -500,8 +604,8 @@ static void put_digest(size_t at, const char *hex)
 /* PCR2, PCR3, and current and cumulative of the root, which is node 0. */
 static bool measured(const char *pcr2, const char *pcr3, const char *cumulative)
 {
-    return holds_digest(16 + 12 * 2, pcr2) && holds_digest(16 + 12 * 3, pcr3) && holds_digest(400 + 8, pcr3) &&
-           holds_digest(400 + 20, cumulative);
+    return holds_digest(PCR(2), pcr2) && holds_digest(PCR(3), pcr3) && holds_digest(NODE_0 + 8, pcr3) &&
+           holds_digest(NODE_0 + 20, cumulative);
 }
 
 /* A boot whose digests are 48 times these bytes, run to its end. */
@@ -510,7 +614,8 @@ static bool boot_of(bool cold, uint8_t runtime_byte, uint8_t manifest_byte)
     uint32_t outcome = 99;
     memset(runtime, runtime_byte, DIGEST);
     memset(manifest, manifest_byte, DIGEST);
-    return (cold ? cold_boot(&outcome) : update_boot(true, &outcome)) == WAGGLELOFT_OK && run(SIZE_MAX) == (cold ? 1217 : 62);
+    return (cold ? cold_boot(&outcome) : update_boot(true, &outcome)) == WAGGLELOFT_OK &&
+           run(SIZE_MAX) == KINDS[cold ? COLD : UPDATE].stores;
 }
 
 static void check_measured_boots(void)
@@ -520,51 +625,275 @@ static void check_measured_boots(void)
           "a cold boot measures runtime, then manifest");
     check(boot_of(false, 0x44, 0x55) && measured(UPDATE_PCR2, UPDATE_PCR3, UPDATE_CUMULATIVE),
           "an update measures runtime, then manifest: PCR2 from zero, PCR3 from its old value");
-    check(boot_of(true, 0x33, 0x11) && holds_digest(16 + 12 * 2, EXCHANGED_PCR) && holds_digest(16 + 12 * 3, EXCHANGED_PCR),
+    check(boot_of(true, 0x33, 0x11) && holds_digest(PCR(2), EXCHANGED_PCR) && holds_digest(PCR(3), EXCHANGED_PCR),
           "exchanged digests are accepted and give other registers");
-    put_digest(16 + 12 * 2, EARLIER_PCR);
-    put_digest(16 + 12 * 3, EARLIER_PCR);
-    put_digest(400 + 8, EARLIER_PCR);
-    put_digest(400 + 20, EARLIER_CUMULATIVE);
+    put_digest(PCR(2), EARLIER_PCR);
+    put_digest(PCR(3), EARLIER_PCR);
+    put_digest(NODE_0 + 8, EARLIER_PCR);
+    put_digest(NODE_0 + 20, EARLIER_CUMULATIVE);
     check(boot_of(false, 0x44, 0x55) && measured(UPDATE_PCR2, EARLIER_UPDATE_PCR3, EARLIER_UPDATE_CUMULATIVE),
           "an image from before the manifest goes on with an update");
     fill_bytes(runtime, DIGEST);
     fill_bytes(manifest, DIGEST);
 }
 
+/* ---- extensions ---- */
+
+static void set_digest(uint8_t byte) { memset(request + 8, byte, DIGEST); }
+
+/*
+ * An extension of the register by 48 times that byte, run to its end: it then is that digest, and all else as before.
+ * The register is overwritten after the opening, which has prepared the value.
+ */
+static bool extends_to(uint32_t number, uint8_t byte, const char *hex)
+{
+    set_digest(byte);
+    remember();
+    bool holds = extend(number) == WAGGLELOFT_OK && image_same();
+    put_digest(PCR(number), hex);
+    remember();
+    memset(image + PCR(number), 0xEE, DIGEST);
+    return holds && run(SIZE_MAX) == KINDS[EXTENSION].stores && image_same();
+}
+
+/* An extension is refused with that number, and nothing is written. */
+static bool extend_refused(uint32_t register_number, uint32_t number)
+{
+    remember();
+    return extend(register_number) == number && image_same() && work_same();
+}
+
+static const uint32_t NO_REGISTERS[] = {0, 1, 2, 3, 31, 32, 36, 0xFF, 0x104, 0x11E, 0x10004, 0x4000000, 0x80000004, UINT32_MAX};
+
+static bool others_refused(void)
+{
+    bool all = true;
+    for (size_t i = 0; i < COUNT(NO_REGISTERS); i++)
+        all = extend_refused(NO_REGISTERS[i], WAGGLELOFT_WRONG_REGISTER) && all;
+    return all;
+}
+
+static void check_extensions(void)
+{
+    bool all = true;
+    for (uint32_t number = 4; number <= 30; number++) {
+        fresh();
+        all = extends_to(number, 0x66, EXTENDED_ONCE) && extends_to(number, 0x77, EXTENDED_TWICE) && all;
+        all = open_update() && run(SIZE_MAX) == KINDS[UPDATE].stores && holds_digest(PCR(number), EXTENDED_TWICE) && all;
+        all = open_stash() && run(SIZE_MAX) == KINDS[STASH].stores && holds_digest(PCR(number), EXTENDED_TWICE) && all;
+    }
+    check(all, "registers 4 to 30 are extended by the digest, and kept by an update and a stash");
+    check(image[PCR(30)] != 0 && open_cold() && run(SIZE_MAX) == KINDS[COLD].stores && image[PCR(30)] == 0,
+          "a register is zero after a cold boot");
+    check(others_refused(), "every other register gets 12");
+}
+
+/* Attestation is off by any value but 1: 12 is told before 13. */
+static void check_extensions_off(void)
+{
+    static const uint32_t off[] = {0, 2, 0x101, 0x80000001, UINT32_MAX};
+    bool all = true;
+    fresh();
+    for (size_t i = 0; i < COUNT(off); i++) {
+        image[1] = off[i];
+        for (uint32_t number = 4; number <= 30; number++)
+            all = extend_refused(number, WAGGLELOFT_ATTESTATION_OFF) && all;
+        all = others_refused() && all;
+    }
+    check(all, "with attestation off registers 4 to 30 get 13, every other one 12");
+    fresh();
+    check(open_disabling() && run(SIZE_MAX) == KINDS[DISABLING].stores && extend_refused(4, WAGGLELOFT_ATTESTATION_OFF),
+          "13 after a disable command");
+}
+
+/* A request with every fault; they are mended one after the other, and each time the next is told. */
+static void check_order_of_extension(void)
+{
+    uint32_t code = 0;
+    size_t len = 55, words = IMAGE - 1;
+    bool all = true;
+    fresh();
+    put_number(4, 31);
+    put_number(0, waggleloft_checksum(WAGGLELOFT_EXTEND_PCR, request + 4, 52) + 1);
+    image[0] = 2;
+    image[1] = 0;
+    image[NODE_0] = UINT32_MAX;
+    static const uint32_t order[] = {WAGGLELOFT_WRONG_IMAGE, WAGGLELOFT_UNFINISHED, WAGGLELOFT_UNKNOWN_CODE, WAGGLELOFT_WRONG_LENGTH,
+                                     WAGGLELOFT_BAD_CHECKSUM, WAGGLELOFT_WRONG_REGISTER, WAGGLELOFT_ATTESTATION_OFF, WAGGLELOFT_OK};
+    for (size_t i = 0; i < COUNT(order); i++) {
+        uint8_t *bytes = lent(len, 1);
+        memcpy(bytes, request, len);
+        remember();
+        all = all && waggleloft_open_request(image, words, code, bytes, len, 7, none, 0, false, work, WORK) == order[i];
+        all = all && image_same() && work_same() == (order[i] != WAGGLELOFT_OK);
+        free(bytes);
+        switch (order[i]) {
+        case WAGGLELOFT_WRONG_IMAGE: words = IMAGE; break;
+        case WAGGLELOFT_UNFINISHED: image[0] = 1; break;
+        case WAGGLELOFT_UNKNOWN_CODE: code = WAGGLELOFT_EXTEND_PCR; break;
+        case WAGGLELOFT_WRONG_LENGTH: len = 56; break;
+        case WAGGLELOFT_BAD_CHECKSUM: set_checksum(code, len); break;
+        case WAGGLELOFT_WRONG_REGISTER: put_number(4, 4); set_checksum(code, len); break;
+        default: image[1] = 1; break;
+        }
+    }
+    check(all, "the order of an extension's refusals: 1, 2, 3, 4, checksum, 12, 13");
+}
+
+/* The nodes are not looked at. */
+static void check_extensions_and_nodes(void)
+{
+    bool all = true;
+    fresh();
+    for (uint32_t i = 0; i < 50; i++) {
+        fill_words(image + NODE_0, i == 0 ? 1 : IMAGE - NODE_0);
+        memset(image + PCR(4), 0, DIGEST);
+        all = ask(WAGGLELOFT_STASH_MEASUREMENT, 60) == WAGGLELOFT_NOT_WELL_FORMED && extends_to(4, 0x66, EXTENDED_ONCE) && all;
+    }
+    check(all, "an extension on nodes that are not well formed");
+    const uint8_t full[12] = {0xFF, 0xFF, 0xFF, 0xFF, 0, 0, 0, 0, 1};
+    all = true;
+    fresh();
+    for (size_t i = 1; i < 24; i++)
+        all = open_stash() && run(SIZE_MAX) == KINDS[STASH].stores && all;
+    all = open_stash() && waggleloft_left(work, WORK) == 0 && answers(full, sizeof full) && all;
+    check(all && extends_to(4, 0x66, EXTENDED_ONCE) && extends_to(30, 0x66, EXTENDED_ONCE), "an extension with all nodes used");
+}
+
+/* The words of an extension's work just opened. */
+static void check_words_of_extension(void)
+{
+    fresh();
+    set_digest(0x66);
+    put_digest(PCR(5), EXTENDED_ONCE);
+    remember();
+    memset(work_before, 0, WORK * sizeof *work);
+    work_before[KIND_IN] = EXTENSION;
+    work_before[FIRST_IN] = 4;
+    work_before[LENGTH_IN] = 8;
+    memcpy(work_before + REGISTER_IN, image + PCR(5), DIGEST);
+    check(extend(4) == WAGGLELOFT_OK && work_same(), "the words of an extension: kind 5, its register, its value, its answer");
+}
+
+/* The work in hand has no store left and no answer, and its refused calls write nothing. */
+static bool damaged(void)
+{
+    size_t written = 99;
+    remember();
+    return waggleloft_left(work, WORK) == 0 && waggleloft_store(work, WORK, image, IMAGE) == WAGGLELOFT_NO_STORE_LEFT &&
+           waggleloft_answer(work, WORK, buffer, LONGEST, &written) == WAGGLELOFT_STORES_LEFT && written == 99 && image_same() &&
+           work_same() && buffer_same();
+}
+
+/* An extension of register 17 in hand, `made` of its stores made. */
+static bool extension_at(size_t made)
+{
+    fresh();
+    set_digest(0x66);
+    return open_extension() && run(made) == made;
+}
+
+/* Its register is moved there: what was made stays, and the rest goes to the other register. */
+static bool moved_within(size_t made, uint32_t number)
+{
+    bool holds = extension_at(made);
+    uint32_t *value = lent(12, sizeof *value);
+    memcpy(value, work + REGISTER_IN, DIGEST);
+    remember();
+    work[FIRST_IN] = number;
+    size_t there = made == 0 ? 0 : made - 1 < 12 ? made - 1 : 12;
+    memcpy(image_before + PCR(number) + there, value + there, (12 - there) * sizeof *value);
+    image_before[0] = 1;
+    holds = holds && run(SIZE_MAX) == KINDS[EXTENSION].stores - made && image_same() && answer_holds(8, WAGGLELOFT_OK, 8);
+    free(value);
+    return holds;
+}
+
+static bool moved_outside(size_t made, uint64_t number)
+{
+    bool holds = extension_at(made);
+    work[FIRST_IN] = (uint32_t)(number & UINT32_MAX);
+    work[FIRST_IN + 1] = (uint32_t)(number >> 32);
+    return holds && damaged();
+}
+
+/* Before the first store, after each, and after the last. */
+static void check_moved_registers(void)
+{
+    static const uint32_t within_registers[] = {4, 5, 16, 17, 18, 23, 24, 29, 30};
+    static const uint64_t outside[] = {0, 3, 31, 32, 0x104, UINT32_MAX, UINT64_C(0x100000004), UINT64_C(0x10000001E),
+                                       UINT64_C(0x8000000000000004), UINT64_MAX};
+    bool all = true;
+    for (size_t made = 0; made <= KINDS[EXTENSION].stores; made++)
+        for (size_t i = 0; i < COUNT(within_registers); i++)
+            all = moved_within(made, within_registers[i]) && all;
+    check(all, "an extension whose register is moved within 4 to 30 stores its value there");
+    all = true;
+    for (size_t made = 0; made <= KINDS[EXTENSION].stores; made++)
+        for (size_t i = 0; i < COUNT(outside); i++)
+            all = moved_outside(made, outside[i]) && all;
+    check(all, "an extension whose register is moved outside has 0 left, 9 and 7");
+}
+
+/* Numbers that no kind has. */
+static void check_no_kinds(void)
+{
+    static const uint32_t kinds[] = {6, 7, 0xFF, 0x105, 0x80000005, UINT32_MAX};
+    static const size_t made[] = {0, 7, 14};
+    bool all = true;
+    for (size_t i = 0; i < COUNT(kinds); i++) {
+        for (size_t k = 0; k < COUNT(made); k++) {
+            all = extension_at(made[k]) && all;
+            work[KIND_IN] = kinds[i];
+            all = damaged() && all;
+        }
+    }
+    check(all, "6 and above are no kinds: 0 left, 9 and 7");
+}
+
 /* ---- refused requests and damaged works ---- */
 
 static bool request_refused(uint32_t code, size_t len, uint32_t number)
 {
-    uint8_t *bytes = lent(len, 1);
-    memcpy(bytes, request, len < 60 ? len : 60);
     remember();
-    bool holds = waggleloft_open_request(image, IMAGE, code, bytes, len, 7, none, 0, false, work, WORK) == number;
-    free(bytes);
-    return holds && image_same() && work_same();
+    return ask_as_is(code, len, none, 0, false) == number && image_same() && work_same();
 }
+
+static uint32_t reversed(uint32_t code) { return code >> 24 | (code >> 8 & 0xFF00U) | (code & 0xFF00U) << 8 | code << 24; }
 
 static void check_refused_requests(void)
 {
     bool all = true;
     fresh();
-    all = ask(WAGGLELOFT_STASH_MEASUREMENT, 60) == WAGGLELOFT_OK;
     fill_words(work, WORK);
-    for (size_t len = 0; len <= 80; len++)
-        if (len != 60)
-            all = request_refused(WAGGLELOFT_STASH_MEASUREMENT, len, WAGGLELOFT_WRONG_LENGTH) && all;
+    for (size_t i = 0; i < COUNT(COMMANDS); i++) {
+        uint32_t code = COMMANDS[i].code;
+        size_t right = COMMANDS[i].len;
+        for (size_t len = 0; len <= 200; len++)
+            if (len != right)
+                all = request_refused(code, len, WAGGLELOFT_WRONG_LENGTH) && all;
+        const uint32_t near[] = {code - 1, code + 1, code ^ 0x80000000U, reversed(code)};
+        for (size_t k = 0; k < COUNT(near); k++)
+            all = request_refused(near[k], right, WAGGLELOFT_UNKNOWN_CODE) && all;
+        set_checksum(code, right);
+        request[right == 4 ? 0 : right - 1] ^= 1;
+        all = request_refused(code, right, WAGGLELOFT_BAD_CHECKSUM) && all;
+    }
     for (uint32_t i = 0; i < 1000; i++)
         all = request_refused(i == 0 ? 0 : random32() & 0xFFFFFFU, i % 64, WAGGLELOFT_UNKNOWN_CODE) && all;
-    request[20] = (uint8_t)(request[20] + 1);
-    all = request_refused(WAGGLELOFT_STASH_MEASUREMENT, 60, WAGGLELOFT_BAD_CHECKSUM) && all;
     check(all, "a refused request leaves the words of a work, whatever they are");
     remember();
     check(ask(WAGGLELOFT_IDENTITY_KEY, 4) == WAGGLELOFT_WRONG_HANDOFF && work_same(), "no handoff table");
     check(ask(WAGGLELOFT_VERIFY_SIGNATURE, 196) == WAGGLELOFT_BAD_SIGNATURE && work_same(), "a verdict that is no");
-    check(ask(WAGGLELOFT_STASH_MEASUREMENT, 60) == WAGGLELOFT_OK && run(1) == 1, "a stash begins");
-    check(request_refused(WAGGLELOFT_DISABLE_ATTESTATION, 4, WAGGLELOFT_UNFINISHED), "no request in the middle of a work");
+    for (size_t i = 0; i < COUNT(ANSWERED); i++) {
+        fresh();
+        all = KINDS[ANSWERED[i].kind].open() && run(1) == 1;
+        for (size_t k = 0; k < COUNT(COMMANDS); k++)
+            all = request_refused(COMMANDS[k].code, COMMANDS[k].len, WAGGLELOFT_UNFINISHED) && all;
+        check_kind(all, "no request in the middle of", ANSWERED[i].kind);
+    }
     image[0] = 1;
-    image[400] = 0xFFFFFFFF;
+    image[NODE_0] = 0xFFFFFFFF;
     remember();
     check(ask(WAGGLELOFT_STASH_MEASUREMENT, 60) == WAGGLELOFT_NOT_WELL_FORMED && work_same(), "nodes that are not well formed");
 }
@@ -587,7 +916,8 @@ static bool damaged_holds(void)
 
 static void check_damaged_works(void)
 {
-    static const uint32_t values[] = {0, 1, 2, 3, 4, 5, 23, 24, 52, 53, 54, 61, 62, 63, 103, 104, 105, 1216, 1217, 1218, 0x7FFFFFFF, 0x80000000, 0xFFFFFFFF};
+    static const uint32_t values[] = {0, 1, 2, 3, 4, 5, 6, 13, 14, 15, 23, 24, 30, 31, 52, 53, 54, 61, 62, 63,
+                                      103, 104, 105, 1216, 1217, 1218, 0x7FFFFFFF, 0x80000000, 0xFFFFFFFF};
     bool all = true;
     fill_words(image, IMAGE);
     for (int i = 0; i < 20000; i++) {
@@ -599,20 +929,22 @@ static void check_damaged_works(void)
     for (int i = 0; i < 200000; i++) {
         fill_words(work, WORK);
         for (size_t at = 0; at < REGISTER_IN; at++)
-            work[at] = at % 2 == 0 && at > 0 && random32() % 8 != 0 ? 0 : values[random32() % (sizeof values / sizeof *values)];
+            work[at] = at % 2 == 0 && at > 0 && random32() % 8 != 0 ? 0 : values[random32() % COUNT(values)];
         all = damaged_holds() && all;
     }
     check(all, "works with numbers at and past their bounds");
-    all = true;
-    for (size_t at = 0; at < REGISTER_IN; at++) {
-        for (size_t i = 0; i < sizeof values / sizeof *values; i++) {
-            fresh();
-            all = ask(WAGGLELOFT_STASH_MEASUREMENT, 60) == WAGGLELOFT_OK && all;
-            work[at] = values[i];
-            all = damaged_holds() && all;
+    for (size_t which = 0; which < COUNT(ANSWERED); which++) {
+        all = true;
+        for (size_t at = 0; at < REGISTER_IN; at++) {
+            for (size_t i = 0; i < COUNT(values); i++) {
+                fresh();
+                all = KINDS[ANSWERED[which].kind].open() && all;
+                work[at] = values[i];
+                all = damaged_holds() && all;
+            }
         }
+        check_kind(all, "one word damaged of", ANSWERED[which].kind);
     }
-    check(all, "a stash with one word damaged");
 }
 
 int main(void)
@@ -624,7 +956,7 @@ int main(void)
     runtime = lent(DIGEST, 1);
     manifest = lent(DIGEST, 1);
     secret = lent(DIGEST, 1);
-    request = lent(196, 1);
+    request = lent(LONGEST_REQUEST, 1);
     buffer = lent(LONGEST, 1);
     buffer_before = lent(LONGEST, 1);
     none = lent(0, 1);
@@ -632,9 +964,10 @@ int main(void)
     fill_bytes(runtime, DIGEST);
     fill_bytes(manifest, DIGEST);
     fill_bytes(secret, DIGEST);
-    fill_bytes(request, 196);
+    fill_bytes(request, LONGEST_REQUEST);
 
     check_sizes();
+    check_table();
     check_stores();
     check_cuts();
     check_answers();
@@ -644,6 +977,13 @@ int main(void)
     check_refused_boots();
     check_accepted_boots();
     check_measured_boots();
+    check_extensions();
+    check_extensions_off();
+    check_order_of_extension();
+    check_extensions_and_nodes();
+    check_words_of_extension();
+    check_moved_registers();
+    check_no_kinds();
     check_refused_requests();
     check_damaged_works();
 

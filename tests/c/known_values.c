@@ -1,6 +1,6 @@
 /*
- * Calls the digest and the checksum of include/waggleloft.h from C and compares
- * what they hand back with known values. Prints a line for each check that failed
+ * Compares the numbers of include/waggleloft.h, and what its digest and its
+ * checksum hand back, with known values. Prints a line for each check that failed
  * and, last, 'N passed, M failed'.
  */
 #include "waggleloft.h"
@@ -20,11 +20,6 @@
 
 /* Bytes after the buffer that have to stay too. */
 #define GUARD 16
-
-/* Command codes of the mailbox. */
-static const uint32_t STASH = UINT32_C(0x4D454153);
-static const uint32_t DISABLE = UINT32_C(0x4453424C);
-static const uint32_t IDENTITY_KEY = UINT32_C(0x49444549);
 
 /* One byte more than the longest message, all zero. */
 static const uint8_t zeros[WAGGLELOFT_SHA384_LONGEST + 1];
@@ -121,25 +116,70 @@ static void check_refusals(void)
             WAGGLELOFT_LONG_MESSAGE);
 }
 
+/* Every number of the header that has a meaning of its own, as the papers give it. */
 static void check_names(void)
 {
-    check(WAGGLELOFT_OK == 0, "success is 0");
-    check(WAGGLELOFT_SHORT_BUFFER == 8, "a short buffer is 8");
-    check(WAGGLELOFT_LONG_MESSAGE == 10, "a long message is 10");
-    check(WAGGLELOFT_SHA384_BYTES == 48, "a digest has 48 bytes");
-    check(WAGGLELOFT_SHA384_LONGEST == 65535,
-          "the longest message has 65,535 bytes");
+    static const struct {
+        const char *name;
+        uint64_t found, expected;
+    } names[] = {
+        {"words of an image", WAGGLELOFT_IMAGE_WORDS, 1216},
+        {"the longest answer", WAGGLELOFT_ANSWER_LONGEST, 104},
+        {"bytes of a digest", WAGGLELOFT_SHA384_BYTES, 48},
+        {"the longest message", WAGGLELOFT_SHA384_LONGEST, 65535},
+        {"the most bytes of all slices", WAGGLELOFT_SHA384_TOTAL_LONGEST, 4294967295},
+        {"success", WAGGLELOFT_OK, 0},
+        {"wrong image", WAGGLELOFT_WRONG_IMAGE, 1},
+        {"unfinished", WAGGLELOFT_UNFINISHED, 2},
+        {"unknown code", WAGGLELOFT_UNKNOWN_CODE, 3},
+        {"wrong length", WAGGLELOFT_WRONG_LENGTH, 4},
+        {"wrong handoff table", WAGGLELOFT_WRONG_HANDOFF, 5},
+        {"wrong input", WAGGLELOFT_WRONG_INPUT, 6},
+        {"stores left", WAGGLELOFT_STORES_LEFT, 7},
+        {"short buffer", WAGGLELOFT_SHORT_BUFFER, 8},
+        {"no store left", WAGGLELOFT_NO_STORE_LEFT, 9},
+        {"long message", WAGGLELOFT_LONG_MESSAGE, 10},
+        {"not well formed", WAGGLELOFT_NOT_WELL_FORMED, 11},
+        {"wrong register", WAGGLELOFT_WRONG_REGISTER, 12},
+        {"attestation off", WAGGLELOFT_ATTESTATION_OFF, 13},
+        {"long total", WAGGLELOFT_LONG_TOTAL, 16},
+        {"wrong counts", WAGGLELOFT_WRONG_COUNTS, 27},
+        {"bad checksum", WAGGLELOFT_BAD_CHECKSUM, 0x4243484B},
+        {"bad signature", WAGGLELOFT_BAD_SIGNATURE, 0x42534947},
+        {"outcome cold", WAGGLELOFT_COLD, 0},
+        {"outcome kept", WAGGLELOFT_KEPT, 1},
+        {"outcome updated", WAGGLELOFT_UPDATED, 2},
+        {"outcome disabled", WAGGLELOFT_DISABLED, 3},
+        {"stash measurement", WAGGLELOFT_STASH_MEASUREMENT, 0x4D454153},
+        {"disable attestation", WAGGLELOFT_DISABLE_ATTESTATION, 0x4453424C},
+        {"identity key", WAGGLELOFT_IDENTITY_KEY, 0x49444549},
+        {"verify signature", WAGGLELOFT_VERIFY_SIGNATURE, 0x53494756},
+        {"extend a register", WAGGLELOFT_EXTEND_PCR, 0x50435245},
+        {"the first register to extend", WAGGLELOFT_EXTEND_FIRST, 4},
+        {"the last register to extend", WAGGLELOFT_EXTEND_LAST, 30},
+    };
+    for (size_t i = 0; i < sizeof names / sizeof *names; i++) {
+        check(names[i].found == names[i].expected, names[i].name);
+    }
 }
 
 static void check_checksums(void)
 {
     static const uint8_t ff[2] = {0xFF, 0xFF};
-    check(waggleloft_checksum(DISABLE, zeros, 0) == UINT32_C(0xFFFFFEDB),
+    static const uint8_t register_4[52] = {4};
+    check(waggleloft_checksum(WAGGLELOFT_DISABLE_ATTESTATION, zeros, 0) ==
+              UINT32_C(0xFFFFFEDB),
           "checksum of disable attestation");
-    check(waggleloft_checksum(IDENTITY_KEY, zeros, 0) == UINT32_C(0xFFFFFEE5),
+    check(waggleloft_checksum(WAGGLELOFT_IDENTITY_KEY, zeros, 0) ==
+              UINT32_C(0xFFFFFEE5),
           "checksum of identity key");
-    check(waggleloft_checksum(STASH, zeros, 56) == UINT32_C(0xFFFFFEDA),
+    check(waggleloft_checksum(WAGGLELOFT_STASH_MEASUREMENT, zeros, 56) ==
+              UINT32_C(0xFFFFFEDA),
           "checksum of stash with 56 zero bytes");
+    /* 0x50 + 0x43 + 0x52 + 0x45 + 4 is 0x12E. */
+    check(waggleloft_checksum(WAGGLELOFT_EXTEND_PCR, register_4, 52) ==
+              UINT32_C(0xFFFFFED2),
+          "checksum of an extension of register 4 by 48 zero bytes");
     check(waggleloft_checksum(0, zeros, 0) == 0,
           "checksum of code 0 without bytes");
     check(waggleloft_checksum(1, ff, sizeof ff) == UINT32_C(0xFFFFFE01),

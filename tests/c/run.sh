@@ -12,12 +12,18 @@ built=target/c
 [ -f "$archive" ] || { echo "$archive is not there: run 'rt staticlib waggleloft' first"; exit 1; }
 mkdir -p "$built"
 
+# The programs that count their own checks, and the examples.
+tests=(tests/c/*.c tests/c/*.cpp)
+examples=(examples/*.c)
+
+name_of() { basename "${1%.*}"; } # SOURCE
+
 # Builds one program.
-build() { # NAME SOURCE FLAGS..
-    local name=$1 source=$2 compiler=(gcc -std=c11)
+build() { # SUFFIX SOURCE FLAGS..
+    local suffix=$1 source=$2 compiler=(gcc -std=c11)
     shift 2
     case $source in *.cpp) compiler=(g++ -std=c++17) ;; esac
-    "${compiler[@]}" "$@" @tests/c/flags "$source" "$archive" -o "$built/$name"
+    "${compiler[@]}" "$@" @tests/c/flags "$source" "$archive" -o "$built/$(name_of "$source")$suffix"
 }
 
 # Runs a program that counts its own checks, and adds them.
@@ -35,6 +41,11 @@ counted() { # COMMAND..
     fi
 }
 
+# What a program writes to standard output, and its status if it is not 0.
+refused() { # COMMAND..
+    "$@" 2>/dev/null || echo "status $?"
+}
+
 # What the example of the buyer's midnight says of a cut, in its last line.
 midnight() { # COMMAND..
     "$@" | tail -n 1
@@ -50,10 +61,21 @@ pieces() { # SUFFIX BYTES COMMAND..
     expect "pieces$suffix of $bytes bytes from a pipe" "$digest" "$(head -c "$bytes" "$built/numbers" | "$@" "$built/pieces$suffix")"
 }
 
+# What the example of the gearbox maker prints of a register: zero extended by the digest of his program.
+zero=$(printf '%096d' 0)
+shifts=$(printf 'shifts gears' | sha384sum | cut -d' ' -f1)
+extended=$(printf %b "$(sed 's/../\\x&/g' <<<"$zero$shifts")" | sha384sum | cut -d' ' -f1)
+
 # All examples; COMMAND comes before each program.
-examples() { # SUFFIX COMMAND..
-    local suffix=$1 bytes
+run_examples() { # SUFFIX COMMAND..
+    local suffix=$1 bytes register
     shift
+    expect "gearbox$suffix" "PCR4 $extended" "$("$@" "$built/gearbox$suffix")"
+    expect "gearbox$suffix 30" "PCR30 $extended" "$("$@" "$built/gearbox$suffix" 30)"
+    for register in 3 31 0x104; do
+        expect "gearbox$suffix $register" 'the extension was refused with number 12'$'\n''status 1' \
+            "$(refused "$@" "$built/gearbox$suffix" "$register")"
+    done
     for bytes in 0 1 4096 65535 65536 1000000; do pieces "$suffix" "$bytes" "$@"; done
     expect "boot$suffix" "$(printf abc | sha384sum | cut -d' ' -f1)"$'\n'FFFFFEDB "$("$@" "$built/boot$suffix")"
     expect "midnight$suffix 0" 'Attestation is on. The new measurement is not in the list, and all earlier ones are.' \
@@ -70,32 +92,24 @@ examples() { # SUFFIX COMMAND..
 }
 
 all() { # SUFFIX COMMAND..
-    local suffix=$1 name
+    local suffix=$1 source
     shift
-    for name in known_values engine running cplusplus; do counted "$@" "$built/$name$suffix"; done
-    examples "$suffix" "$@"
+    for source in "${tests[@]}"; do counted "$@" "$built/$(name_of "$source")$suffix"; done
+    run_examples "$suffix" "$@"
 }
 
 seq 200000 >"$built/numbers"
 for suffix in '' .san; do
     flags=(-O2)
     [ -z "$suffix" ] || flags=(-g -fsanitize=address,undefined -fno-sanitize-recover=all)
-    build "known_values$suffix" tests/c/known_values.c "${flags[@]}"
-    build "engine$suffix" tests/c/engine.c "${flags[@]}"
-    build "running$suffix" tests/c/running.c "${flags[@]}"
-    build "cplusplus$suffix" tests/c/cplusplus.cpp "${flags[@]}"
-    build "boot$suffix" examples/boot.c "${flags[@]}"
-    build "midnight$suffix" examples/midnight.c "${flags[@]}"
-    build "pieces$suffix" examples/pieces.c "${flags[@]}"
+    for source in "${tests[@]}" "${examples[@]}"; do build "$suffix" "$source" "${flags[@]}"; done
     all "$suffix" env --
 done
 
-# What a program writes to standard output, and its status if it is not 0.
-refused() { # COMMAND..
-    "$@" 2>/dev/null || echo "status $?"
-}
 expect 'midnight without a number' 'status 2' "$(refused "$built/midnight")"
 expect 'midnight 54' 'status 2' "$(refused "$built/midnight" 54)"
+expect 'gearbox with no number' 'status 2' "$(refused "$built/gearbox" four)"
+expect 'gearbox with 2^32 + 4' 'status 2' "$(refused "$built/gearbox" 4294967300)"
 expect 'pieces of no file' 'status 1' "$(refused "$built/pieces" "$built/none")"
 expect 'pieces of a folder' 'status 1' "$(refused "$built/pieces" "$built")"
 expect 'pieces of two files' 'status 2' "$(refused "$built/pieces" "$built/image" "$built/image")"

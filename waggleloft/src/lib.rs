@@ -58,16 +58,32 @@ pub const SHA384_STATE_BYTES: usize = 208;
 /// The most bytes that a [`Sha384`] takes, all slices together.
 pub const SHA384_TOTAL_LONGEST: u64 = 0xFFFF_FFFF;
 
-/// Command codes of the mailbox.
+/// The first register that [`code::EXTEND_PCR`] extends. PCR *r* is the twelve words of the image from
+/// word 16 + 12 *r* on, a word's lowest byte first.
+pub const EXTEND_FIRST: u32 = 4;
+/// The last register that [`code::EXTEND_PCR`] extends.
+pub const EXTEND_LAST: u32 = 30;
+
+/// Command codes of the mailbox. What a command refuses of its own comes after
+/// [`BadChecksum`](crate::Refusal::BadChecksum).
 pub mod code {
-    /// Adds a measurement to the list.
+    /// Adds a measurement to the list. Its own refusal: [`NotWellFormed`](crate::Refusal::NotWellFormed).
     pub const STASH_MEASUREMENT: u32 = 0x4D45_4153;
     /// Switches attestation off.
     pub const DISABLE_ATTESTATION: u32 = 0x4453_424C;
-    /// Asks for the identity key of the handoff table.
+    /// Asks for the identity key of the handoff table. Its own refusal:
+    /// [`WrongHandoff`](crate::Refusal::WrongHandoff).
     pub const IDENTITY_KEY: u32 = 0x4944_4549;
-    /// Hands back the verdict on a signature.
+    /// Hands back the verdict on a signature. Its own refusal: [`BadSignature`](crate::Refusal::BadSignature).
     pub const VERIFY_SIGNATURE: u32 = 0x5349_4756;
+    /// Extends one of the registers [`EXTEND_FIRST`](crate::EXTEND_FIRST) to
+    /// [`EXTEND_LAST`](crate::EXTEND_LAST) by a digest: it takes SHA-384 of its old 48 bytes and the digest
+    /// joined. The request is 56 bytes: checksum 4, the register's number 4 (lowest byte first), digest 48.
+    /// The answer is 8 bytes: checksum and status.
+    ///
+    /// Its own refusals, the first that applies: [`WrongRegister`](crate::Refusal::WrongRegister),
+    /// [`AttestationOff`](crate::Refusal::AttestationOff).
+    pub const EXTEND_PCR: u32 = 0x5043_5245;
 }
 
 /// The SHA-384 digest of a message.

@@ -142,7 +142,7 @@ impl Work {
     ///
     /// Refused, and this work stays, the first that applies: [`Refusal::WrongImage`],
     /// [`Refusal::Unfinished`], [`Refusal::UnknownCode`], [`Refusal::WrongLength`],
-    /// [`Refusal::BadChecksum`], then the command's own.
+    /// [`Refusal::BadChecksum`], then the command's own ([`code`](crate::code)).
     pub fn open_request(&mut self, image: &[u32], request: &Request<'_>) -> Result<(), Refusal> {
         Refusal::check(archive::open_request(image, request, &mut self.words))
     }

@@ -1,8 +1,8 @@
 //! The engine through the crate: a boot, requests, cuts and refusals.
 
 use waggleloft::{
-    archive_sizes, checksum, code, BootInputs, Outcome, Refusal, Request, Work, ANSWER_LONGEST,
-    IMAGE_WORDS, WORK_WORDS,
+    archive_sizes, checksum, code, sha384, BootInputs, Outcome, Refusal, Request, Work,
+    ANSWER_LONGEST, EXTEND_FIRST, EXTEND_LAST, IMAGE_WORDS, WORK_WORDS,
 };
 
 const INPUTS: BootInputs<'static> = BootInputs {
@@ -29,32 +29,67 @@ fn fresh() -> Vec<u32> {
     image
 }
 
-/// The digest in the twelve words of an image from `at` on: a word's lowest byte first.
+/// The 48 bytes in the twelve words of an image from `at` on: a word's lowest byte first.
+fn bytes_at(image: &[u32], at: usize) -> Vec<u8> {
+    let words = image[at..at + 12].iter();
+    words.flat_map(|word| word.to_le_bytes()).collect()
+}
+
 fn digest_at(image: &[u32], at: usize) -> String {
-    let bytes = image[at..at + 12]
-        .iter()
-        .flat_map(|word| word.to_le_bytes());
+    let bytes = bytes_at(image, at).into_iter();
     bytes.map(|byte| format!("{byte:02x}")).collect()
+}
+
+/// The first word of a register.
+fn register(number: u32) -> usize {
+    16 + 12 * number as usize
+}
+
+/// A request of these arguments, with its checksum.
+fn sealed(code: u32, arguments: &[u8]) -> Vec<u8> {
+    [&checksum(code, arguments).to_le_bytes(), arguments].concat()
+}
+
+fn open(work: &mut Work, image: &[u32], code: u32, bytes: &[u8]) -> Result<(), Refusal> {
+    let request = Request {
+        code,
+        bytes,
+        ..Request::default()
+    };
+    work.open_request(image, &request)
 }
 
 /// A stash of 48 bytes 7, with its checksum.
 fn stash() -> Vec<u8> {
-    let mut bytes = vec![7; 60];
-    let sum = checksum(code::STASH_MEASUREMENT, &bytes[4..]);
-    bytes[..4].copy_from_slice(&sum.to_le_bytes());
-    bytes
+    sealed(code::STASH_MEASUREMENT, &[7; 56])
 }
 
 fn open_stash(work: &mut Work, image: &[u32]) -> Result<(), Refusal> {
-    let bytes = stash();
-    work.open_request(
-        image,
-        &Request {
-            code: code::STASH_MEASUREMENT,
-            bytes: &bytes,
-            ..Request::default()
-        },
-    )
+    open(work, image, code::STASH_MEASUREMENT, &stash())
+}
+
+fn open_disable(work: &mut Work, image: &[u32]) -> Result<(), Refusal> {
+    let bytes = sealed(code::DISABLE_ATTESTATION, &[]);
+    open(work, image, code::DISABLE_ATTESTATION, &bytes)
+}
+
+/// An extension of a register by 48 equal bytes, with its checksum.
+fn extension(number: u32, byte: u8) -> Vec<u8> {
+    let arguments = [&number.to_le_bytes()[..], &[byte; 48]].concat();
+    sealed(code::EXTEND_PCR, &arguments)
+}
+
+fn open_extension(work: &mut Work, image: &[u32], number: u32, byte: u8) -> Result<(), Refusal> {
+    open(work, image, code::EXTEND_PCR, &extension(number, byte))
+}
+
+/// An image after a cold boot and a disable command.
+fn switched_off() -> Vec<u32> {
+    let mut image = fresh();
+    let mut work = Work::new();
+    assert_eq!(open_disable(&mut work, &image), Ok(()));
+    assert_eq!(run(&mut work, &mut image, usize::MAX), 15);
+    image
 }
 
 #[test]
@@ -62,26 +97,29 @@ fn sizes_are_the_archives() {
     assert_eq!(archive_sizes(), (WORK_WORDS, IMAGE_WORDS));
 }
 
-#[test]
-fn every_cut_of_a_stash() {
-    for cut in 0..=53 {
+/// Cuts a request's work after every number of its stores, with an update boot behind; `shown` is a word
+/// that is zero unless the work has counted.
+fn every_cut(
+    open: impl Fn(&mut Work, &[u32]) -> Result<(), Refusal>,
+    stores: usize,
+    length: usize,
+    shown: usize,
+) {
+    for cut in 0..=stores {
         let mut image = fresh();
         let mut work = Work::new();
-        open_stash(&mut work, &image).expect("accepted");
-        assert_eq!(work.left(), 53);
+        open(&mut work, &image).expect("accepted");
+        assert_eq!(work.left(), stores);
         assert_eq!(run(&mut work, &mut image, cut), cut);
-        let mut answer = [0xEE; ANSWER_LONGEST];
-        let taken = work.answer(&mut answer);
-        assert_eq!(
-            taken,
-            if cut == 53 {
-                Ok(12)
-            } else {
-                Err(Refusal::StoresLeft)
-            }
-        );
+        let taken = work.answer(&mut [0xEE; ANSWER_LONGEST]);
+        let expected = if cut == stores {
+            Ok(length)
+        } else {
+            Err(Refusal::StoresLeft)
+        };
+        assert_eq!(taken, expected, "cut {cut}");
         let outcome = work.open_update_boot(&image, &INPUTS, true);
-        let on = cut == 0 || cut == 53;
+        let on = cut == 0 || cut == stores;
         let expected = if on {
             Outcome::Updated
         } else {
@@ -94,7 +132,21 @@ fn every_cut_of_a_stash() {
         );
         assert_eq!(image[1], u32::from(on), "cut {cut}");
         assert_eq!(image[4..16].iter().all(|&word| word == 0), !on, "cut {cut}");
+        if on {
+            assert_eq!(image[shown] != 0, cut == stores, "cut {cut}");
+        }
     }
+}
+
+#[test]
+fn every_cut_of_a_stash() {
+    every_cut(open_stash, 53, 12, 434);
+}
+
+#[test]
+fn every_cut_of_an_extension() {
+    let open = |work: &mut Work, image: &[u32]| open_extension(work, image, 17, 0x66);
+    every_cut(open, 14, 8, register(17));
 }
 
 #[test]
@@ -218,16 +270,8 @@ fn exchanged_digests_give_other_registers() {
 
 #[test]
 fn a_declined_stash_is_answered() {
-    let mut image = fresh();
+    let image = switched_off();
     let mut work = Work::new();
-    let disable = checksum(code::DISABLE_ATTESTATION, &[]).to_le_bytes();
-    let request = Request {
-        code: code::DISABLE_ATTESTATION,
-        bytes: &disable,
-        ..Request::default()
-    };
-    assert_eq!(work.open_request(&image, &request), Ok(()));
-    assert_eq!(run(&mut work, &mut image, usize::MAX), 15);
     assert_eq!(open_stash(&mut work, &image), Ok(()));
     assert_eq!(work.left(), 0);
     let mut answer = [0xEE; 12];
@@ -245,16 +289,7 @@ fn a_declined_stash_is_answered() {
 fn refusals_of_requests() {
     let image = fresh();
     let mut work = Work::new();
-    let mut ask = |code, bytes: &[u8]| {
-        work.open_request(
-            &image,
-            &Request {
-                code,
-                bytes,
-                ..Request::default()
-            },
-        )
-    };
+    let mut ask = |code, bytes: &[u8]| open(&mut work, &image, code, bytes);
     let mut bad = stash();
     bad[30] ^= 1;
     assert_eq!(ask(0, &[]), Err(Refusal::UnknownCode));
@@ -263,17 +298,109 @@ fn refusals_of_requests() {
         ask(code::STASH_MEASUREMENT, &bad),
         Err(Refusal::BadChecksum)
     );
-    let identity = checksum(code::IDENTITY_KEY, &[]).to_le_bytes();
+    let identity = sealed(code::IDENTITY_KEY, &[]);
     assert_eq!(
         ask(code::IDENTITY_KEY, &identity),
         Err(Refusal::WrongHandoff)
     );
-    let mut verify = [0; 196];
-    verify[..4].copy_from_slice(&checksum(code::VERIFY_SIGNATURE, &[0; 192]).to_le_bytes());
+    let verify = sealed(code::VERIFY_SIGNATURE, &[0; 192]);
     assert_eq!(
         ask(code::VERIFY_SIGNATURE, &verify),
         Err(Refusal::BadSignature)
     );
+}
+
+/// Every register that may be extended, twice: its words are SHA-384 of the old value and the digest
+/// joined, and no other word of the image changes.
+#[test]
+fn an_extension_stores_its_register_alone() {
+    for number in EXTEND_FIRST..=EXTEND_LAST {
+        let mut image = fresh();
+        for byte in [0x66, 0x77] {
+            let at = register(number);
+            let joined = [bytes_at(&image, at), vec![byte; 48]].concat();
+            let mut expected = image.clone();
+            for (i, &byte) in sha384(&joined).expect("96 bytes").iter().enumerate() {
+                let shift = 8 * (i % 4);
+                expected[at + i / 4] &= !(0xFF << shift);
+                expected[at + i / 4] |= u32::from(byte) << shift;
+            }
+            let mut work = Work::new();
+            assert_eq!(open_extension(&mut work, &image, number, byte), Ok(()));
+            assert_eq!(run(&mut work, &mut image, usize::MAX), 14);
+            assert_eq!(image, expected, "PCR{number}");
+            let mut answer = [0xEE; 9];
+            assert_eq!(work.answer(&mut answer[..7]), Err(Refusal::ShortBuffer));
+            assert_eq!(work.answer(&mut answer), Ok(8));
+            assert_eq!(answer, [0, 0, 0, 0, 0, 0, 0, 0, 0xEE]);
+        }
+    }
+}
+
+/// PCR4 extended by 48 bytes 0x66, from GNU sha384sum:
+///
+/// ```text
+/// x48() { printf "%.0s$1" $(seq 48); }
+/// printf %b "$(sed 's/../\\x&/g' <<<"$(x48 00)$(x48 66)")" | sha384sum
+/// ```
+#[test]
+fn a_register_is_kept_by_an_update_and_zero_after_a_cold_boot() {
+    let extended = "698aa835f229bcdf213933d7c8e1c2fa58c51fd9aa0680eb\
+                    63bc13d039dee5e8d41f7fd033da6f8079cc1c9c5da2c49b";
+    let mut image = fresh();
+    let mut work = Work::new();
+    assert_eq!(open_extension(&mut work, &image, 4, 0x66), Ok(()));
+    run(&mut work, &mut image, usize::MAX);
+    assert_eq!(digest_at(&image, register(4)), extended);
+    let update = work.open_update_boot(&image, &INPUTS, true);
+    assert_eq!(update, Ok(Outcome::Updated));
+    run(&mut work, &mut image, usize::MAX);
+    assert_eq!(digest_at(&image, register(4)), extended);
+    assert_eq!(work.open_cold_boot(&image, &INPUTS), Ok(Outcome::Cold));
+    run(&mut work, &mut image, usize::MAX);
+    assert_eq!(bytes_at(&image, register(4)), [0; 48]);
+}
+
+/// 12 for every number that is no register from 4 to 30, all 32 bits of it; then 13. Both come after the
+/// checksum.
+#[test]
+fn refusals_of_an_extension() {
+    let on = fresh();
+    let off = switched_off();
+    // Attestation is off by any value but 1.
+    let mut two = fresh();
+    two[1] = 2;
+    let mut work = Work::new();
+    let before = work.clone();
+    for number in [0, 2, 3, 31, 32, 0x104, 0x0400_0000, 0x8000_0004, u32::MAX] {
+        for image in [&on, &off, &two] {
+            let opened = open_extension(&mut work, image, number, 0x66);
+            assert_eq!(opened, Err(Refusal::WrongRegister), "register {number}");
+        }
+    }
+    for number in [4, 30] {
+        for image in [&off, &two] {
+            let opened = open_extension(&mut work, image, number, 0x66);
+            assert_eq!(opened, Err(Refusal::AttestationOff), "register {number}");
+        }
+    }
+    let mut bad = extension(31, 0x66);
+    bad[55] ^= 1;
+    let mut ask = |bytes: &[u8]| open(&mut work, &off, code::EXTEND_PCR, bytes);
+    assert_eq!(ask(&bad), Err(Refusal::BadChecksum));
+    assert_eq!(ask(&bad[..55]), Err(Refusal::WrongLength));
+    assert_eq!(work, before);
+}
+
+/// An extension does not look at the nodes.
+#[test]
+fn an_extension_on_nodes_that_are_not_well_formed() {
+    let mut image = fresh();
+    let mut work = Work::new();
+    image[400..].fill(u32::MAX);
+    assert_eq!(open_stash(&mut work, &image), Err(Refusal::NotWellFormed));
+    assert_eq!(open_extension(&mut work, &image, 4, 0x66), Ok(()));
+    assert_eq!(run(&mut work, &mut image, usize::MAX), 14);
 }
 
 #[test]
@@ -293,13 +420,14 @@ fn damaged_words_have_no_store() {
 }
 
 #[test]
-fn a_refusal_is_its_number() {
-    for number in (1..=40).chain([0x4243_484B, 0x4253_4947]) {
-        assert_eq!(Refusal::from_number(number).number(), number);
-    }
+fn a_refusal_tells_its_words_and_number() {
     assert_eq!(
         Refusal::NoStoreLeft.to_string(),
         "no store is left (number 9)"
+    );
+    assert_eq!(
+        Refusal::from_number(1000).to_string(),
+        "refused (number 1000)"
     );
 }
 

@@ -15,7 +15,7 @@ const USED: usize = 65_000;
 const UNKNOWN_CODE: [u8; 4] = [3, 0, 0, 0];
 const WRONG_LENGTH: [u8; 4] = [4, 0, 0, 0];
 const HANDOFF_WRONG: [u8; 4] = [5, 0, 0, 0];
-const REGISTER_OUTSIDE: [u8; 4] = [12, 0, 0, 0];
+const WRONG_REGISTER: [u8; 4] = [12, 0, 0, 0];
 /// 0x4243484B, lowest byte first.
 const BAD_CHECKSUM: [u8; 4] = *b"KHCB";
 /// 0x42534947, lowest byte first.
@@ -34,9 +34,6 @@ const CARD_10_OUTPUT: [u8; 12] = [0; 12];
 
 /// What every accepted stash writes: result 0, and the answer with dpe result 0, whose checksum is 0.
 const STASHED: [u8; 16] = [0; 16];
-
-/// What every accepted extension writes: result 0, and the answer of checksum and FIPS status.
-const EXTENDED: [u8; 12] = [0; 12];
 
 /// Code, checksum and the bytes after it.
 fn request(code: [u8; 4], checksum: u32, rest: &[u8]) -> Vec<u8> {
@@ -148,50 +145,55 @@ fn stash_with_one_bit_changed() {
     }
 }
 
-/// A register's number and a digest.
+/// Result 0, and the answer of 8 bytes, whose checksum is 0.
+const EXTENDED: [u8; 12] = [0; 12];
+
+/// An extension of a register by a digest, with the right checksum.
 fn extension(register: u32, digest: &[u8]) -> Vec<u8> {
-    [&register.to_le_bytes(), digest].concat()
+    sealed(EXTEND, &[&register.to_le_bytes()[..], digest].concat())
 }
 
 #[test]
-fn extension_by_zero_bytes() {
-    let input = request(EXTEND, 0xFFFF_FED2, &extension(4, &[0; 48]));
+fn extension_of_register_4() {
+    let input = request(EXTEND, 0xFFFF_FED2, &[&[4, 0, 0, 0][..], &[0; 48]].concat());
     assert_eq!(hex(&input[..12]), "45524350d2feffff04000000");
     writes(&input, &EXTENDED);
 }
 
 #[test]
-fn extension_of_each_register() {
+fn extension_of_every_register() {
     let mut random = Random::from_seed(3);
-    for register in 4..=30 {
-        let rest = extension(register, &random.bytes(48));
-        writes(&sealed(EXTEND, &rest), &EXTENDED);
+    for register in 0..40 {
+        let expected: &[u8] = match register {
+            4..=30 => &EXTENDED,
+            _ => &WRONG_REGISTER,
+        };
+        writes(&extension(register, &random.bytes(48)), expected);
     }
 }
 
 #[test]
-fn extension_of_a_register_outside() {
-    for register in [0, 3, 31, 32, 36, 0x104, 0x0400_0000, 0x8000_0004, u32::MAX] {
-        let rest = extension(register, &[7; 48]);
-        writes(&sealed(EXTEND, &rest), &REGISTER_OUTSIDE);
+fn register_is_the_whole_number() {
+    for register in [0x104, 0x10004, 0x0400_0000, 0x8000_0004, u32::MAX] {
+        writes(&extension(register, &[9; 48]), &WRONG_REGISTER);
     }
 }
 
 #[test]
-fn extension_with_a_bad_checksum() {
-    for register in [4, 31] {
-        let rest = extension(register, &[7; 48]);
-        writes(&request(EXTEND, 0, &rest), &BAD_CHECKSUM);
+fn extension_with_a_digest_of_another_length() {
+    for length in [0, 47, 49, 52] {
+        writes(&extension(31, &vec![9; length]), &WRONG_LENGTH);
     }
 }
 
 #[test]
-fn extension_of_another_length() {
-    for length in [0, 4, 47, 49, 52] {
-        for register in [4, 31] {
-            let rest = extension(register, &vec![7; length]);
-            writes(&sealed(EXTEND, &rest), &WRONG_LENGTH);
-        }
+fn extension_with_one_bit_changed() {
+    let mut random = Random::from_seed(4);
+    for register in [3, 4, 30, 31] {
+        let mut input = extension(register, &random.bytes(48));
+        let at = random.between(4, input.len() - 1);
+        input[at] ^= 1 << random.between(0, 7);
+        writes(&input, &BAD_CHECKSUM);
     }
 }
 

@@ -75,8 +75,8 @@ fn extended_twice() -> [u32; 12] {
     words_of(&extended_by(&ZERO, &[[0x33; 48], [0x44; 48]]))
 }
 
-fn kinds() -> [Kind; 6] {
-    [
+fn kinds() -> Vec<Kind> {
+    vec![
         Kind {
             name: "a new measurement (stash)",
             before: |s| s,

@@ -1,0 +1,84 @@
+//! The crate and include/waggleloft.h have the same numbers, under names that belong together.
+
+use waggleloft::{code, Refusal};
+
+/// The macros of the header that are numbers, without `WAGGLELOFT_`, section by section.
+fn macros(section: &str) -> Vec<(&'static str, u64)> {
+    let header = include_str!("../../include/waggleloft.h");
+    let heading = format!("/* ---- {section} ---- */");
+    let (_, rest) = header.split_once(&heading).expect("the section");
+    let text = rest.split("/* ---- ").next().unwrap_or(rest);
+    let lines = text.lines().filter_map(|line| {
+        let mut words = line.strip_prefix("#define WAGGLELOFT_")?.split(' ');
+        Some((words.next()?, number(words.next()?)))
+    });
+    lines.collect()
+}
+
+/// `1216`, `UINT32_C(1)` or `UINT32_C(0x4243484B)`.
+fn number(text: &str) -> u64 {
+    let digits = match text.split_once('(') {
+        Some((_, inner)) => inner.trim_end_matches(')'),
+        None => text,
+    };
+    let parsed = match digits.strip_prefix("0x") {
+        Some(hex) => u64::from_str_radix(hex, 16),
+        None => digits.parse(),
+    };
+    parsed.unwrap_or_else(|_| panic!("{text} is no number"))
+}
+
+/// `WRONG_IMAGE` as `WrongImage`.
+fn camel(name: &str) -> String {
+    let words = name.split('_').map(|word| {
+        let (first, rest) = word.split_at(1);
+        first.to_string() + &rest.to_lowercase()
+    });
+    words.collect()
+}
+
+#[test]
+fn every_refusal_has_the_headers_name_and_number() {
+    let numbers = macros("Numbers that the functions hand back");
+    assert_eq!(numbers[0], ("OK", 0));
+    for &(name, number) in &numbers[1..] {
+        let refusal = Refusal::from_number(u32::try_from(number).expect("32 bits"));
+        // Works and states of another length share a number.
+        let name = if name == "WRONG_STATE" {
+            "WRONG_WORK"
+        } else {
+            name
+        };
+        assert_eq!(format!("{refusal:?}"), camel(name));
+        assert_eq!(u64::from(refusal.number()), number);
+    }
+}
+
+#[test]
+fn every_command_has_the_headers_code() {
+    let codes = [
+        ("STASH_MEASUREMENT", code::STASH_MEASUREMENT),
+        ("DISABLE_ATTESTATION", code::DISABLE_ATTESTATION),
+        ("IDENTITY_KEY", code::IDENTITY_KEY),
+        ("VERIFY_SIGNATURE", code::VERIFY_SIGNATURE),
+        ("EXTEND_PCR", code::EXTEND_PCR),
+        ("EXTEND_FIRST", waggleloft::EXTEND_FIRST),
+        ("EXTEND_LAST", waggleloft::EXTEND_LAST),
+    ];
+    let codes = codes.map(|(name, code)| (name, u64::from(code)));
+    assert_eq!(macros("Command codes of the mailbox"), codes);
+}
+
+#[test]
+fn every_size_is_the_headers() {
+    let sizes = [
+        ("IMAGE_WORDS", waggleloft::IMAGE_WORDS as u64),
+        ("WORK_WORDS", waggleloft::WORK_WORDS as u64),
+        ("ANSWER_LONGEST", waggleloft::ANSWER_LONGEST as u64),
+        ("SHA384_BYTES", waggleloft::SHA384_BYTES as u64),
+        ("SHA384_LONGEST", waggleloft::SHA384_LONGEST as u64),
+        ("SHA384_STATE_BYTES", waggleloft::SHA384_STATE_BYTES as u64),
+        ("SHA384_TOTAL_LONGEST", waggleloft::SHA384_TOTAL_LONGEST),
+    ];
+    assert_eq!(macros("Sizes"), sizes);
+}
