@@ -1,8 +1,8 @@
 -- What holds of the chain after every history: sizes, a well-formed tree whose root has PCR3 as its current measurement, and cumulative measurements of 48
--- bytes. A cold boot makes it; an extension, a stash and an update keep it, by the laws of any well-formed tree. Assumes nothing.
+-- bytes. A cold boot makes it; a stash, an update and a new value of another register keep it, by the laws of any well-formed tree. Assumes nothing.
 use mathlib.Core.Path.{_≡_, refl, sym, ap, _∙_, subst, fun-ext}
 use mathlib.Core.Logic.{_≢_}
-use Prim.Native.Nat.{ℕ, zero, suc, _+_, _-_, _≤_, _<_}
+use Prim.Native.Nat.{ℕ, zero, suc, _+_, _-_, _<_}
 use native.Mathlib.Omega.{arith}
 use native.Mathlib.Decide.{ℕ-discrete, decLt}
 use mathlib.Core.Bool.{true, true≢false}
@@ -12,7 +12,7 @@ use borrow.Author.Tests.{eq-eqb}
 use lib.Dec.{eqb}
 use lib.Seq.{getD-set-same, getD-set-other}
 use lib.ListN.{length, getD, set, replicate, length-set, length-replicate, getD-replicate, List·getD-eq-default}
-use Rattle.layout.specs.Sizes.{nodeCount, registerCount, registerWords, registerAt, currentAt, currentRegister, journeyRegister, stashRegister, extendFirst}
+use Rattle.layout.specs.Sizes.{nodeCount, registerCount, registerWords, registerAt, currentAt, currentRegister, journeyRegister, stashRegister}
 use Rattle.layout.specs.Words.{words48, bytes48, zeros}
 use Rattle.layout.proofs.Blocks.{getD-kept}
 use Rattle.layout.proofs.Bounded.{all-below}
@@ -27,7 +27,7 @@ use Rattle.tree.proofs.Rooted.{placed, placed-same, placed-other, root-used}
 use Rattle.nodes.proofs.Rows.{default-row, retired-row}
 use Rattle.tree.proofs.WellFormed.{Formed, same-refl, rehandled, stashed, formed-true, formed-stashed, top-found, holder-found, free-there}
 use Rattle.opening.specs.Values.{childNode, rootNode}
-use Rattle.opening.specs.Tasks.{BootInputs, Measurement, RegisterExtension, stash, update, coldBoot, extension}
+use Rattle.opening.specs.Tasks.{BootInputs, Measurement, stash, update, coldBoot}
 use Rattle.opening.specs.Openings.{rootMatches}
 use Rattle.history.specs.Ledger.{Chain, Contents, treeAt, changed, renewed, extendedAt, nextChain, imageOf}
 use Rattle.history.proofs.Encoded.{Shape, register-words, current-at, cumulative-words, encodes, tree-read}
@@ -248,10 +248,9 @@ module _ (x : Chain) (g : Good x) where
   pub formed-good : wellFormed nodeCount (treeAt x) ≡ true
   formed-good = formed-true nodeCount (omega arith) (treeAt x) (g .top) (g .holder) (g .formed)
 
--- ---- an extension
+-- ---- a register other than PCR3 may become any measurement
 
--- a register other than PCR3 may become any measurement
-good-register : (x : Chain) (i : ℕ) (v : List ℕ) → Measure v → journeyRegister ≢ i → Good x → Good (record { registers = set (x .registers) i v; nodes = x .nodes })
+pub good-register : (x : Chain) (i : ℕ) (v : List ℕ) → Measure v → journeyRegister ≢ i → Good x → Good (record { registers = set (x .registers) i v; nodes = x .nodes })
 good-register x i v m apart g =
     record {
       shape = shape-of _ (measures-set registerCount (x .registers) i v m (measures-of x (g .shape))) (g .shape .nodes);
@@ -261,10 +260,6 @@ good-register x i v m apart g =
       journey = g .journey ∙ sym (getD-set-other (x .registers) i journeyRegister v [] apart);
       cumulatives = g .cumulatives;
     }
-
-pub good-extension : (x : Chain) (e : RegisterExtension) → extendFirst ≤ e .register → Good x → Good (nextChain x (extension e))
-unfolding nextChain
-good-extension x e h g = good-register x (e .register) _ (measure-extended _ _) (λ z. omega (arith, z)) g
 
 -- ---- a stash
 

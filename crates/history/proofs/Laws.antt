@@ -1,6 +1,7 @@
 -- What demand 3 needs of each kind of task, as one record of laws: the only place where the proof goes by the kind of work. Assumes nothing.
 use mathlib.Core.Path.{_≡_, ap, _∙_}
-use Prim.Native.Nat.{ℕ, _≤_, _<_}
+use mathlib.Core.Logic.{_≢_}
+use Prim.Native.Nat.{ℕ, _<_}
 use native.Mathlib.Nat.{not-suc-le-zero}
 use native.Mathlib.Omega.{arith}
 use mathlib.Core.Bool.{Bool, true, false, cond, true≢false, false≢true}
@@ -8,9 +9,10 @@ use mathlib.Core.List.{List}
 use mathlib.Core.Option.{Option, none, some}
 use lib.Dec.{ltb}
 use borrow.Author.Tests.{ltb-true}
-use Rattle.layout.specs.Sizes.{nodeCount, registerCount, extendFirst}
+use Rattle.layout.specs.Sizes.{nodeCount, registerCount, journeyRegister}
 use Rattle.layout.proofs.Cases.{and-left}
 use Rattle.layout.proofs.Extendable.{extendable-from, extendable-to}
+use Rattle.sha384.proofs.Sizes.{measure-extended}
 use Rattle.tree.specs.Tree.{lowestFree}
 use Rattle.table.specs.Table.{numberOf, indexOk}
 use Rattle.table.specs.declared.Put.{Put}
@@ -20,7 +22,7 @@ use Rattle.opening.specs.Works.{factsOf}
 use Rattle.opening.specs.declared.Outcome.{Outcome}
 use Rattle.opening.specs.declared.Outcome.the-variants.{Cold, Kept, Updated, Disabled}
 use Rattle.history.specs.Ledger.{Chain, Contents, treeAt, nextChain, next, imageOf, disables}
-use Rattle.history.proofs.Good.{Good, good-cold, good-stash, good-update, good-extension}
+use Rattle.history.proofs.Good.{Good, good-cold, good-register, good-stash, good-update}
 use Rattle.history.proofs.Runs.{planAt, offPlan, command-plan, boot-plan, run-off, run-stash, run-update, run-extension}
 
 abbrev pub isCold : Option Outcome → Bool
@@ -51,14 +53,14 @@ unfolding indexOk
 room x m a = ltb-true _ nodeCount (and-left (ltb (lowestFree nodeCount (treeAt x)) nodeCount) _ (a .index))
 
 module _ (x : Chain) (e : RegisterExtension) (a : Allowed x (extension e)) where
-  -- an extension's register is one, and past PCR3
+  -- an extension's register is one of the 32, and not PCR3
   within : e .register < registerCount
   unfolding indexOk
   within = omega (arith, extendable-to (e .register) (a .index))
 
-  past : extendFirst ≤ e .register
+  past : journeyRegister ≢ e .register
   unfolding indexOk
-  past = extendable-from (e .register) (a .index)
+  past z = omega (arith, z, extendable-from (e .register) (a .index))
 
 pub laws : (t : Task) → Law t
 unfolding nextChain numberOf
@@ -92,7 +94,7 @@ laws (coldBoot b) =
     record { keeps = λ x g a. good-cold x b; runs = λ att x g a p. absurd (true≢false (a .warm)); off = λ e. absurd (false≢true e) }
 laws (extension e) =
     record {
-      keeps = λ x g a. good-extension x e (past x e a) g;
+      keeps = λ x g a. good-register x (e .register) _ (measure-extended _ _) (past x e a) g;
       runs = λ att x g a p. run-extension att x g e (within (x .chain) e a);
       off = λ q. absurd (false≢true q);
     }
