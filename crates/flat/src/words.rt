@@ -88,7 +88,13 @@ fn head_of(kind: Kind, position: usize, answer_len: usize) -> [u32; REGISTER_IN]
     ensures { λ r. ⌜ r ≡ headOf (standing kind position «answer_len») ⌝ }
 {
     let coded = encode(kind);
-    head(coded.number, coded.first, coded.second, position, answer_len)
+    head(
+        coded.number,
+        coded.first,
+        coded.second,
+        position,
+        answer_len,
+    )
 }
 
 fn packed(answer: &[u8]) -> [u32; ANSWER_WORDS]

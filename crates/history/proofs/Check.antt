@@ -1,22 +1,27 @@
--- Demand 3 is not empty: on any image, lists of calls whose last one ends an update boot; one whole, one after a torn work. Assumes nothing.
+-- Demand 3 is not empty: on any image, lists of calls whose last one ends an update boot, one whole, one after a torn work; and
+-- one with an extension. Assumes nothing.
 use mathlib.Core.Path.{_≡_, refl, _∙_}
-use Prim.Native.Nat.{ℕ, _-_}
+use Prim.Native.Nat.{ℕ, _-_, _*_}
 use mathlib.Core.Bool.{Bool, true, false, _&&_}
-use mathlib.Core.List.{List, [], _∷_}
+use mathlib.Core.List.{List, [], _∷_, _++_, map}
 use mathlib.Core.Option.{Option, none, some}
 use native.Mathlib.Omega.{arith}
 use lib.Dec.{eqb}
-use lib.ListN.{length, getD, replicate}
-use Rattle.layout.specs.Sizes.{imageWords, attestationAt}
+use lib.ListN.{length, getD, set, take, drop, replicate}
+use Rattle.layout.specs.Sizes.{imageWords, attestationAt, registersAt, registerCount, registerWords, currentRegister, journeyRegister, extendFirst, extendable}
+use Rattle.layout.specs.Words.{bytes4, words48, zeros, flat}
 use Rattle.layout.specs.Below.{allBelow}
+use Rattle.message.specs.Checksum.{checksumOf}
+use Rattle.sha384.specs.Entries.{extended}
 use Rattle.table.specs.Table.{numberOf}
 use Rattle.work.specs.Entries.{leftOf}
-use Rattle.table.specs.declared.Kind.the-variants.{Disabling, Update}
-use Rattle.opening.specs.Tasks.{BootInputs, bootOf, Task}
-use Rattle.opening.specs.Rules.{inputsOk}
+use Rattle.table.specs.declared.Kind.the-variants.{Disabling, Update, Extension}
+use Rattle.opening.specs.Tasks.{requestOf, BootInputs, bootOf, Task}
+use Rattle.opening.specs.Rules.{wrongChecksum, extendCode, inputsOk}
+use Rattle.opening.specs.Values.{extendedByBoot}
 use Rattle.opening.specs.Openings.{openColdBoot, bootNumber}
-use Rattle.history.specs.Calls.{Call, updateBoot, store, powerCut, Hand, Machine, Step, step, run}
-use Rattle.history.specs.Ledger.{Job, Ledger, letGo, ledgerStep, firstLedger}
+use Rattle.history.specs.Calls.{Call, request, updateBoot, store, powerCut, Hand, Machine, Step, step, run}
+use Rattle.history.specs.Ledger.{Job, Ledger, nextChain, stateOf, viewOf, letGo, ledgerStep, firstLedger}
 use Rattle.history.specs.Demand.{Shut, wasAccepted, bootEnded, endsBoot, afterColdBoot}
 use Rattle.history.proofs.Ground.{isBoot}
 use Rattle.history.proofs.Sim.{Inv, empty, done, going, Together, carried-left, sim, sim-run}
@@ -60,6 +65,22 @@ whole-calls = updateBoot inputs true ∷ replicate (numberOf (Update 0) - 1) sto
 pub torn-calls : List Call
 torn-calls = updateBoot inputs true ∷ store ∷ powerCut ∷ updateBoot inputs true ∷ replicate (numberOf Disabling - 1) store
 
+-- PCR4 extended by 48 bytes 0x44, to its end
+pub digest : List ℕ
+digest = replicate 48 0x44
+
+arguments : List ℕ
+arguments = bytes4 extendFirst ++ digest
+
+pub extension-calls : List Call
+extension-calls =
+    request (requestOf extendCode (bytes4 (checksumOf extendCode arguments) ++ arguments) 0 [] false) ∷ replicate (numberOf (Extension extendFirst)) store
+
+-- the registers that a cold boot leaves
+pub coldRegisters : List (List ℕ)
+coldRegisters =
+    set (set (replicate registerCount (zeros 48)) currentRegister (extendedByBoot (zeros 48) inputs)) journeyRegister (extendedByBoot (zeros 48) inputs)
+
 module _ (before : List ℕ) (e : length before ≡ imageWords) where
   ends : (calls : List Call) (c : Call) → ledgerEnds (ledgerStep (run ledgerStep (firstLedger inputs) calls) c) ≡ true
       → endsBoot (step (run step (afterColdBoot before inputs) calls) c) ≡ true
@@ -90,3 +111,9 @@ module _ (before : List ℕ) (e : length before ≡ imageWords) where
   pub torn-shut : (later : List Call) → Shut (run step (step (run step (afterColdBoot before inputs) torn-calls) store .state) later .image)
   unfolding ledgerStep letGo inputsOk allBelow inputs torn-calls numberOf
   torn-shut later = demand3 before inputs (cold-opens before e) torn-calls .shut store torn-ends refl later
+
+  -- and that an extension is in its register, and in no other
+  pub extension-counts : take (registerCount * registerWords) (drop registersAt (run step (afterColdBoot before inputs) extension-calls .image))
+      ≡ flat (map words48 (set coldRegisters extendFirst (extended (zeros 48) digest)))
+  unfolding ledgerStep letGo viewOf stateOf nextChain wrongChecksum checksumOf extendable inputsOk allBelow inputs digest arguments extension-calls coldRegisters numberOf
+  extension-counts = demand3 before inputs (cold-opens before e) extension-calls .counted refl refl .registers

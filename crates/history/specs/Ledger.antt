@@ -79,7 +79,6 @@ nextChain x (coldBoot b) =
       registers = set (set (replicate registerCount (zeros 48)) currentRegister journey) journeyRegister journey;
       nodes = set (replicate nodeCount none) 0 (some (rootNode journey));
     }
-
 -- extension: its register, and nothing else (document 02, §1)
 nextChain x (extension e) = record { registers = extendedAt (x .registers) (e .register) (e .digest); nodes = x .nodes }
 

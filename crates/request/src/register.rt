@@ -9,7 +9,11 @@ use packing::bytes_in;
 use sha384::digest::extend;
 use slices::little_endian::pack;
 
-pub(crate) fn extended_register(image: &[u32], register: usize, digest: [u8; 48]) -> [u32; REGISTER_WORDS]
+pub(crate) fn extended_register(
+    image: &[u32],
+    register: usize,
+    digest: [u8; 48],
+) -> [u32; REGISTER_WORDS]
     requires { ⌜ register < registerCount ⌝ }
     ensures { λ r. ⌜ r ≡ registerExtended (now (image .entry)) register digest ⌝ }
 {

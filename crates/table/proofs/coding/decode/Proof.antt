@@ -26,7 +26,7 @@ returns-5 c = rw (c .match .keys5)
 
 returns-6 : tie.Need-returns-6
 unfolding kindOf
-returns-6 c = 
+returns-6 c =
     let n = c .before .args .coded .number in
     rw (
       ne-eqb n 1 (c .match .rest .0 .0 .0 .0 .1),

@@ -25,7 +25,7 @@ word-requires : tie.Need-word-requires
 word-requires c κs = tt
 
 returns-2 : tie.Need-returns-2
-returns-2 c = 
+returns-2 c =
     let k = c .before .before .before .before .args .k in
     (rw (le-ltb k 1 (omega arith), lt-ltb k (1 + registerWords) (omega arith), ← (c .word .ensures)), search needs)
 

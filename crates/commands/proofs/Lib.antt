@@ -1,0 +1,2 @@
+-- The laws of each command.
+pub mod ByCommand
