@@ -191,10 +191,6 @@ requestRules v r =
     let c = commandOf (r .code) in
     refuses number.unfinished (not (v .done)) ∷ refuses number.unknownCode (not (c .known)) ∷ commandRules c v r
 
--- what a command comes to where the mark and the code are fine
-unfoldable pub commandRuling : Command → View → Request → Ruling
-commandRuling c v r = ruled (commandRules c v r) c r
-
 -- a boot's inputs: 48 bytes each, and the secret not all zero
 unfoldable pub inputsOk : BootInputs → Bool
 inputsOk x =

@@ -1,4 +1,4 @@
--- What every command's opening tests first, and what it answers then. Assumes nothing.
+-- What is tested of every request's code and bytes, and what its command answers then. Assumes nothing.
 use Prim.Native.Nat.{ℕ}
 use mathlib.Core.Bool.{cond}
 use mathlib.Core.List.{List}
@@ -6,7 +6,7 @@ use lib.Dec.{eqb}
 use lib.ListN.{length}
 use Rattle.layout.specs.Refusals as number
 use Rattle.opening.specs.Tasks.{Request}
-use Rattle.opening.specs.Rules.{wrongChecksum, Command, ruled, commandRuling}
+use Rattle.opening.specs.Rules.{wrongChecksum, Command, commandOf, ruled}
 use Rattle.opening.specs.Openings.{openedOf, viewIn}
 use Rattle.opening.specs.declared.Status.{Status}
 use Rattle.opening.specs.declared.Status.the-variants as status
@@ -17,10 +17,14 @@ unfoldable pub screenOf : ℕ → List ℕ → ℕ → Status
 screenOf code bytes n =
     cond (eqb (length bytes) n) (cond (wrongChecksum code bytes) (status.Refused number.badChecksum) status.Ready) (status.Refused number.wrongLength)
 
--- what a command's opening answers, at an image whose size and mark are fine
-unfoldable pub commandOpened : Command → List ℕ → Request → Opened
-commandOpened c image r = openedOf image (commandRuling c (viewIn image) r)
+-- "3 unknown code", and those two by the code's command
+unfoldable pub commandScreen : ℕ → List ℕ → Status
+commandScreen code bytes =
+    cond (commandOf code .known)
+    (cond (commandOf code .lengthOk bytes) (cond (wrongChecksum code bytes) (status.Refused number.badChecksum) status.Ready)
+    (status.Refused number.wrongLength))
+    (status.Refused number.unknownCode)
 
--- and once the screen has passed
+-- what a command answers at an image whose size and mark are fine, once the screen has passed
 unfoldable pub screenedOpened : Command → List ℕ → Request → Opened
 screenedOpened c image r = openedOf image (ruled (c .rules (viewIn image) r) c r)

@@ -7,10 +7,9 @@ ghost use Rattle.layout.specs.Sizes.{imageWords, extendable};
 ghost use Rattle.opening.specs.Tasks.{requestOf, extension};
 ghost use Rattle.opening.specs.Rules.{answerOf, extensionIn, extendRegister, extendCode, extendLength};
 ghost use Rattle.opening.specs.Works.{workAt, extensionValues};
-ghost use Rattle.request.specs.Screen.{commandOpened, screenedOpened};
+ghost use Rattle.request.specs.Screen.{screenedOpened};
 use crate::answer::ready_with;
 use crate::register::extended_register;
-use crate::screen::screen;
 use layout::ATTESTATION_AT;
 use layout::NODE_WORDS;
 use layout::REGISTER_WORDS;
@@ -20,7 +19,6 @@ use layout::registers::may_extend;
 use making::Values;
 use opening::Opened;
 use opening::Status;
-use opening::commands::EXTEND_CODE;
 use opening::works::refused;
 use slices::little_endian::read32;
 use slices::strings::bytes_of;
@@ -62,8 +60,8 @@ fn accepted(image: &[u32], bytes: &[u8], register: usize) -> Opened
     ready_with(Kind::Extension(register), values, &[])
 }
 
-// After length and checksum.
-fn extend_ready(image: &[u32], bytes: &[u8]) -> Opened
+// The command, once length and checksum are fine.
+pub(crate) fn serve_extend(image: &[u32], bytes: &[u8]) -> Opened
     requires { ⌜ (length (now image) ≡ imageWords) × (length (now bytes) ≡ extendLength) ⌝ }
     ensures { λ r. ⌜ r ≡ screenedOpened extendRegister (now (image .entry)) (requestOf extendCode (now (bytes .entry)) 0 [] false) ⌝ }
 {
@@ -75,15 +73,4 @@ fn extend_ready(image: &[u32], bytes: &[u8]) -> Opened
         return refused(ATTESTATION_OFF);
     }
     accepted(image, bytes, register)
-}
-
-pub(crate) fn open_extend(image: &[u32], bytes: &[u8], n: usize) -> Opened
-    requires { ⌜ (length (now image) ≡ imageWords) × (n ≡ extendLength) ⌝ }
-    ensures { λ r. ⌜ r ≡ commandOpened extendRegister (now (image .entry)) (requestOf extendCode (now (bytes .entry)) 0 [] false) ⌝ }
-{
-    let status = screen(EXTEND_CODE, bytes, n);
-    match status {
-        Status::Refused(number) => return refused(number),
-        Status::Ready => return extend_ready(image, bytes),
-    }
 }

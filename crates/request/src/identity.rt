@@ -1,15 +1,13 @@
 // Identity key: X and Y from the handoff table; nothing is stored.
 ghost use mathlib.Core.Path.{_≡_};
 ghost use mathlib.Core.Bool.{false};
+ghost use mathlib.Core.List.{[]};
 ghost use Rattle.opening.specs.Tasks.{requestOf};
-ghost use Rattle.opening.specs.Rules.{handoffOk, identityKey, identityCode, bareLength};
-ghost use Rattle.request.specs.Screen.{commandOpened};
+ghost use Rattle.opening.specs.Rules.{handoffOk, identityKey, identityCode};
+ghost use Rattle.request.specs.Screen.{screenedOpened};
 use crate::answer::ready_plain;
-use crate::screen::screen;
 use layout::refusals::WRONG_TABLE;
 use opening::Opened;
-use opening::Status;
-use opening::commands::IDENTITY_CODE;
 use opening::works::refused;
 use slices::little_endian::read16;
 use slices::little_endian::read32;
@@ -39,19 +37,11 @@ fn handoff_ok(h: &[u8]) -> bool
     false
 }
 
-pub(crate) fn open_identity(image: &[u32], bytes: &[u8], n: usize, handoff: &[u8]) -> Opened
-    requires { ⌜ n ≡ bareLength ⌝ }
-    ensures { λ r. ⌜ r ≡ commandOpened identityKey (now (image .entry)) (requestOf identityCode (now (bytes .entry)) 0 (now (handoff .entry)) false) ⌝ }
+pub(crate) fn serve_identity(image: &[u32], handoff: &[u8]) -> Opened
+    ensures { λ r. ⌜ r ≡ screenedOpened identityKey (now (image .entry)) (requestOf identityCode [] 0 (now (handoff .entry)) false) ⌝ }
 {
-    let status = screen(IDENTITY_CODE, bytes, n);
-    match status {
-        Status::Refused(number) => return refused(number),
-        Status::Ready => {
-            if handoff_ok(handoff) {
-                return ready_plain(Kind::Nothing, &handoff[KEY_START..KEY_END]);
-            } else {
-                return refused(WRONG_TABLE);
-            }
-        }
+    if handoff_ok(handoff) {
+        return ready_plain(Kind::Nothing, &handoff[KEY_START..KEY_END]);
     }
+    refused(WRONG_TABLE)
 }

@@ -12,11 +12,10 @@ ghost use Rattle.making.specs.Made.{plainWork};
 ghost use Rattle.opening.specs.Tasks.{requestOf, stash};
 ghost use Rattle.opening.specs.Rules.{answerOf, measurementIn, stashMeasurement, stashCode, stashLength};
 ghost use Rattle.opening.specs.Works.{workAt, stashValues};
-ghost use Rattle.request.specs.Screen.{commandOpened, screenedOpened};
+ghost use Rattle.request.specs.Screen.{screenedOpened};
 use crate::answer::ready_plain;
 use crate::answer::ready_with;
 use crate::register::extended_register;
-use crate::screen::screen;
 use layout::ATTESTATION_AT;
 use layout::NODES;
 use layout::REGISTER_WORDS;
@@ -29,7 +28,6 @@ use making::Values;
 use nodes::node_row;
 use opening::Opened;
 use opening::Status;
-use opening::commands::STASH_CODE;
 use opening::works::refused;
 use packing::four;
 use sha384::digest::extend;
@@ -83,8 +81,8 @@ fn declined(result: u32) -> Opened
     ready_plain(Kind::Nothing, &dpe)
 }
 
-// After length and checksum.
-fn stash_ready(image: &[u32], bytes: &[u8], caller: u32) -> Opened
+// The command, once length and checksum are fine.
+pub(crate) fn serve_stash(image: &[u32], bytes: &[u8], caller: u32) -> Opened
     requires { ⌜ (length (now image) ≡ imageWords) × (length (now bytes) ≡ stashLength) ⌝ }
     ensures { λ r. ⌜ r ≡ screenedOpened stashMeasurement (now (image .entry)) (requestOf stashCode (now (bytes .entry)) caller [] false) ⌝ }
 {
@@ -99,15 +97,4 @@ fn stash_ready(image: &[u32], bytes: &[u8], caller: u32) -> Opened
         return accepted(image, bytes, caller, node);
     }
     declined(DPE_FULL)
-}
-
-pub(crate) fn open_stash(image: &[u32], bytes: &[u8], n: usize, caller: u32) -> Opened
-    requires { ⌜ (length (now image) ≡ imageWords) × (n ≡ stashLength) ⌝ }
-    ensures { λ r. ⌜ r ≡ commandOpened stashMeasurement (now (image .entry)) (requestOf stashCode (now (bytes .entry)) caller [] false) ⌝ }
-{
-    let status = screen(STASH_CODE, bytes, n);
-    match status {
-        Status::Refused(number) => return refused(number),
-        Status::Ready => return stash_ready(image, bytes, caller),
-    }
 }

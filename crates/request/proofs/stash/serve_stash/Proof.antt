@@ -10,8 +10,8 @@ use Rattle.opening.specs.Works.{workAt}
 use Rattle.opening.specs.Openings.{viewIn}
 use Rattle.request.specs.Screen.{screenedOpened}
 use borrow.Author.Needs.{needs}
-use Rattle.request.proofs.stash.stash_ready.Statement.{statement}
-use Rattle.request.proofs.stash.stash_ready.Tie as tie
+use Rattle.request.proofs.stash.serve_stash.Statement.{statement}
+use Rattle.request.proofs.stash.serve_stash.Tie as tie
 
 shared-slice-read-if1 : tie.Need-shared-slice-read-if1
 shared-slice-read-if1 c = search needs
@@ -66,8 +66,8 @@ returns-4 c =
       le-leb nodeCount (lowestFree nodeCount (treeIn (a .image .now))) (omega (arith, c .before .before .free-index .ensures .0)),
     ) (c .declined2 .ensures)
 
-pub stash-ready-spec : {M : Type 1} → statement M
-stash-ready-spec =
+pub serve-stash-spec : {M : Type 1} → statement M
+serve-stash-spec =
     tie.close
     (tie.spec
     shared-slice-read-if1

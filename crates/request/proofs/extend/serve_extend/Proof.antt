@@ -6,8 +6,8 @@ use Rattle.layout.proofs.Cases.{told-no, told-yes}
 use Rattle.opening.specs.Openings.{viewIn}
 use Rattle.request.specs.Screen.{screenedOpened}
 use borrow.Author.Needs.{needs}
-use Rattle.request.proofs.extend.extend_ready.Statement.{statement}
-use Rattle.request.proofs.extend.extend_ready.Tie as tie
+use Rattle.request.proofs.extend.serve_extend.Statement.{statement}
+use Rattle.request.proofs.extend.serve_extend.Tie as tie
 
 register-in-requires : tie.Need-register-in-requires
 register-in-requires c κs = tt
@@ -55,8 +55,8 @@ returns-3 c =
       eq-eqb (getD (a .image .now) attestationAt 0) 1 (c .before .if2 .left),
     ) (c .accepted .ensures)
 
-pub extend-ready-spec : {M : Type 1} → statement M
-extend-ready-spec =
+pub serve-extend-spec : {M : Type 1} → statement M
+serve-extend-spec =
     tie.close
     (tie.spec
     register-in-requires
