@@ -22,7 +22,7 @@ use Rattle.opening.specs.Tasks.{Request, BootInputs, Task, noStores, keptBoot, 
 use Rattle.opening.specs.Rules.{refuses, wrongChecksum, Command, commandOf, served, ruled, commandRules, requestRules, updateTask}
 use Rattle.opening.specs.Works.{factsOf}
 use Rattle.opening.proofs.Decided.{NoneApply, ruled-decided}
-use Rattle.commands.proofs.ByCommand.{Steady, Served, CommandLaw, declined-short, command-law}
+use Rattle.command_laws.proofs.ByCommand.{Steady, Served, CommandLaw, declined-short, command-law}
 use Rattle.opening.specs.declared.Outcome.{Outcome}
 use Rattle.opening.specs.Openings.{viewIn, intact}
 use Rattle.history.specs.Ledger.{Chain, Contents, treeAt, next, blank, stateOf, imageOf, any, disables, isNone, isDisableCommand, isOff, viewOf}

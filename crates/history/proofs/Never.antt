@@ -20,7 +20,7 @@ use Rattle.history.specs.Ledger.{Job, Ledger, stateOf, isOff, letGo, vie
 use Rattle.history.specs.Demand.{afterColdBoot}
 use Rattle.history.proofs.Good.{formed-good}
 use Rattle.history.proofs.Ground.{Ground, sound, locked, broken, ruling}
-use Rattle.commands.proofs.ByCommand.{Not11, No11, command-law}
+use Rattle.command_laws.proofs.ByCommand.{Not11, No11, command-law}
 use Rattle.history.proofs.Sim.{Related, sim, sim-run, release, rule-torn}
 use Rattle.history.proofs.Demand.{cold-start, store-cases}
 

@@ -19,7 +19,7 @@ use Rattle.opening.specs.Tasks.{Request, Task, noStores, Ruling, refused, accep
 use Rattle.opening.specs.Rules.{commandOf, answerOf, declined, served, ruled, requestRules}
 use Rattle.opening.specs.Works.{factsOf, workAt}
 use Rattle.opening.proofs.Decided.{NoneApply, ruled-decided}
-use Rattle.commands.proofs.ByCommand.{declined-short, command-law}
+use Rattle.command_laws.proofs.ByCommand.{declined-short, command-law}
 use Rattle.opening.specs.Openings.{openedOf, sizeRule, viewIn, openRequest}
 use Rattle.opening.specs.declared.Status.the-variants as status
 use Rattle.opening.specs.declared.Opened.{Opened}
