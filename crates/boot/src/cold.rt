@@ -42,6 +42,7 @@ fn cold_values(x: Inputs) -> Values
         cumulative,
         ROOT_TYPE,
         0,
+        0,
     );
     let secret = x.secret;
     let words = pack(&secret, 0);

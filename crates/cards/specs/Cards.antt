@@ -1,4 +1,4 @@
--- Document 01's bench cards *1 to *9, "shown by proof as one table under a single statement", and card 10; 4 and 10 as document 02, §11, has them.
+-- Document 01's bench cards *1 to *9, "shown by proof as one table under a single statement", and card 10; 4 and 10 as document 02, §11, has them, 6 as its §7 has it.
 -- Assumes nothing.
 use mathlib.Core.Path.{_≡_}
 use mathlib.Core.Logic.{_⊎_, _≢_}
@@ -33,7 +33,7 @@ pub record GivesOne (image : List ℕ) : Type 0 where
   pub updateBoot : (x : BootInputs) (verdict : Bool) → bootNumber (openUpdateBoot image x verdict .status) ≡ 1
   pub store : (w : Work) → storeNumber w image ≡ 1
 
--- an image at which a stash depends on the free nodes alone: 1,216 words, mark 1, attestation on, well formed
+-- an image at which a stash depends on the free nodes alone: 1,240 words, mark 1, attestation on, well formed
 pub record Serving (image : List ℕ) : Type 0 where
   pub size : length image ≡ imageWords
   pub done : getD image markAt 0 ≡ 1
@@ -82,8 +82,8 @@ pub record Cards : Type 0 where
       → Declined (openRequest image r) 2 × (le32 (openRequest image r .work .answer) 0 ≡ 0xFFFFFFFE)
   -- *5 "Code 0, no bytes: 0."
   pub card5 : checksumOf 0 [] ≡ 0
-  -- *6 "Images of 1,215 and 1,217 words: 1.": every such image
-  pub card6 : (image : List ℕ) → (length image ≡ 1215) ⊎ (length image ≡ 1217) → GivesOne image
+  -- *6 "Images of .. words: 1.", of 1,239 and 1,241 since document 02, §7: every such image
+  pub card6 : (image : List ℕ) → (length image ≡ 1239) ⊎ (length image ≡ 1241) → GivesOne image
   -- *7 "Root's word 0: 0x00FF0001.": word 400 after all stores of any accepted cold boot
   pub card7 : (before : List ℕ) (x : BootInputs) → bootNumber (openColdBoot before x .status) ≡ 0 → getD (coldBooted before x) 400 0 ≡ 0x00FF0001
   -- *8 "A used node that is its own parent: not well formed.": in every image; and one such image

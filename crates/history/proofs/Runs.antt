@@ -16,7 +16,7 @@ use Rattle.sha384.specs.Entries.{extended}
 use Rattle.tree.specs.Nodes.{treeIn, cumulativeIn}
 use Rattle.tree.specs.Tree.{defaultWords, rootIn, nodeWith, lowestFree}
 use Rattle.nodes.specs.Record.{Node, retiredHandle, nodeRow, placeRow, measurementsRow, withHandle, withCurrent, withCumulative}
-use Rattle.nodes.proofs.Rows.{length48, length-row, store-handle, store-current, store-cumulative, retired-row, raw-current, raw-cumulative}
+use Rattle.nodes.proofs.Rows.{length48, length-row, store-handle, store-current, store-cumulative, retired-row, measurements-current, measurements-cumulative}
 use Rattle.table.specs.Table.{put, Run, one, fill, copy, stashRuns, disablingRuns, updateRuns, coldRuns, extensionRuns, numberOf}
 use Rattle.work.specs.Entries.{runsOf}
 use Rattle.making.specs.Made.{workWith}
@@ -319,23 +319,6 @@ module _ (att : ℕ) (x : Contents) (g : Good (x .chain)) (b : BootInputs) where
       (updateRuns (t i) (words48 (extendedByBoot (zeros 48) b)) (words48 (extendedByBoot (r i) b))
       (measurementsRow (extendedByBoot (r i) b) (extended (c i) (extendedByBoot (r i) b))) (words48 (b .secret)))
 
-  -- the prepared words, at the two places
-  current-words : (j : ℕ) → j < registerWords → getD (measurementsRow journey cumulative) (currentAt + j) 0 ≡ getD (words48 journey) j 0
-  current-words j h =
-      raw-current 0 0 0 0 (words48 journey) (words48 cumulative) (length48 journey) (length48 cumulative) (currentAt + j) (omega arith) (omega arith)
-      ∙ ap (λ (i : ℕ). getD (words48 journey) i 0) (back j)
-    where
-      back : (j : ℕ) → currentAt + j - currentAt ≡ j
-      back j = omega arith
-
-  cumulative-words : (j : ℕ) → j < registerWords → getD (measurementsRow journey cumulative) (cumulativeAt + j) 0 ≡ getD (words48 cumulative) j 0
-  cumulative-words j h =
-      raw-cumulative 0 0 0 0 (words48 journey) (words48 cumulative) (length48 journey) (length48 cumulative) (cumulativeAt + j) (omega arith) (omega arith)
-      ∙ ap (λ (i : ℕ). getD (words48 cumulative) i 0) (back j)
-    where
-      back : (j : ℕ) → cumulativeAt + j - cumulativeAt ≡ j
-      back j = omega arith
-
   pub run-update : apply (planAt (imageOf 1 att x) (update b)) (imageOf 1 att x) ≡ imageOf 1 att (next x (update b))
   unfolding nextChain updateRow cumulative journey root rootNow
   run-update =
@@ -345,11 +328,11 @@ module _ (att : ℕ) (x : Contents) (g : Good (x .chain)) (b : BootInputs) where
       ∙ register-run 0 att x1 (drop 3 updateRow) c1 journeyRegister journey (lit< tt)
       ∙ secret-run 0 att x2 (drop 4 updateRow) (b .secret)
       ∙ run-part (drop 5 updateRow) (imageOf 0 att x3) (nodeAt root + currentAt) registerWords values currentAt (words48 journey) (length48 journey)
-      current-words
+      (measurements-current journey cumulative)
       ∙ ap (apply (storesIn (drop 5 updateRow)))
       (sets-node 0 att x3 c3 root currentAt (words48 journey) (some half) (root-below (x .chain) g) (omega (arith, length48 journey)) current-row)
       ∙ run-part (drop 6 updateRow) (imageOf 0 att x4) (nodeAt root + cumulativeAt) registerWords values cumulativeAt (words48 cumulative)
-      (length48 cumulative) cumulative-words
+      (length48 cumulative) (measurements-cumulative journey cumulative)
       ∙ ap (apply (storesIn (drop 6 updateRow)))
       (sets-node 0 att x4 c4 root cumulativeAt (words48 cumulative) (some whole) (root-below (x .chain) g) (omega (arith, length48 cumulative)) cumulative-row)
       ∙ mark-run 0 att (withNode x4 root (some whole)) [] 1

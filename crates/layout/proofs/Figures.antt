@@ -29,6 +29,7 @@ image-figures =
       nodeCumulative = refl;
       type = refl;
       locality = refl;
+      svn = refl;
       rootParent = refl;
       rootKind = refl;
       answer = refl;

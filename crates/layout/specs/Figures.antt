@@ -1,13 +1,13 @@
--- Document 01's figures of the image as numerals: what a change of the geometry edits by hand. Nothing rests on them. Assumes nothing.
+-- Document 01's figures of the image, as document 02 leaves them, as numerals: what a change of the geometry edits by hand. Nothing rests on them. Assumes nothing.
 use mathlib.Core.Path.{_≡_}
-use Rattle.layout.specs.Sizes.{nodeCount, nodeWords, registerCount, registerWords, markAt, attestationAt, secretAt, registersAt, nodesAt, imageWords, registerAt, currentRegister, journeyRegister, stashRegister, extendFirst, extendLast, tagAt, handleAt, handleWords, flagsAt, currentAt, cumulativeAt, typeAt, localityAt, rootMark, rootType, answerMax}
+use Rattle.layout.specs.Sizes.{nodeCount, nodeWords, registerCount, registerWords, markAt, attestationAt, secretAt, registersAt, nodesAt, imageWords, registerAt, currentRegister, journeyRegister, stashRegister, extendFirst, extendLast, tagAt, handleAt, handleWords, flagsAt, currentAt, cumulativeAt, typeAt, localityAt, svnAt, rootMark, rootType, answerMax}
 
 pub record ImageFigures : Type 0 where
-  -- "an image of 1,216 words"
-  pub image : imageWords ≡ 1216
-  -- "24 measurement nodes, 34 words each"
+  -- "the image 1,240" words (document 02, §7)
+  pub image : imageWords ≡ 1240
+  -- "24 measurement nodes"; "a node is 35 words" (document 02, §7)
   pub nodes : nodeCount ≡ 24
-  pub nodeSize : nodeWords ≡ 34
+  pub nodeSize : nodeWords ≡ 35
   -- "PCR0 to PCR31, 12 words each"
   pub registers : registerCount ≡ 32
   pub registerSize : registerWords ≡ 12
@@ -33,6 +33,7 @@ pub record ImageFigures : Type 0 where
   pub nodeCumulative : cumulativeAt ≡ 20
   pub type : typeAt ≡ 32
   pub locality : localityAt ≡ 33
+  pub svn : svnAt ≡ 34
   -- "0xFF for the root", "RTJM"
   pub rootParent : rootMark ≡ 0xFF
   pub rootKind : rootType ≡ 0x4D4A5452

@@ -4,12 +4,12 @@ use Prim.Native.Nat.{ℕ, _+_, _*_}
 use mathlib.Core.Bool.{Bool, _&&_}
 use lib.Dec.{leb}
 
--- "24 measurement nodes, 34 words each"
+-- "24 measurement nodes", of 34 words; since document 02, §7, "a node is 35 words"
 abbrev pub nodeCount : ℕ
 nodeCount = 24
 
 abbrev pub nodeWords : ℕ
-nodeWords = 34
+nodeWords = 35
 
 -- "PCR0 to PCR31, 12 words each": a register holds 48 bytes
 abbrev pub registerCount : ℕ
@@ -38,7 +38,7 @@ registersAt = 16
 abbrev pub nodesAt : ℕ
 nodesAt = registersAt + registerCount * registerWords
 
--- 1,216 words
+-- 1,240 words
 abbrev pub imageWords : ℕ
 imageWords = nodesAt + nodeCount * nodeWords
 
@@ -70,7 +70,8 @@ extendLast = 30
 unfoldable pub extendable : ℕ → Bool
 extendable r = leb extendFirst r && leb r extendLast
 
--- "Node words (offsets within the node)": 1 tag; 2 to 6 context handle; 7 flags; 8 to 19 current; 20 to 31 cumulative; 32 type; 33 locality
+-- "Node words (offsets within the node)": 1 tag; 2 to 6 context handle; 7 flags; 8 to 19 current; 20 to 31 cumulative; 32 type; 33 locality;
+-- "word 34, the svn" (document 02, §7)
 abbrev pub tagAt : ℕ
 tagAt = 1
 
@@ -94,6 +95,9 @@ typeAt = 32
 
 abbrev pub localityAt : ℕ
 localityAt = 33
+
+abbrev pub svnAt : ℕ
+svnAt = 34
 
 -- the parent's index that marks the root
 abbrev pub rootMark : ℕ

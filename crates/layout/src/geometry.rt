@@ -29,6 +29,7 @@ use crate::ROOT_MARK;
 use crate::ROOT_TYPE;
 use crate::SECRET_AT;
 use crate::STASH_REGISTER;
+use crate::SVN_AT;
 use crate::TYPE_AT;
 
 pub struct Geometry {
@@ -55,6 +56,7 @@ pub struct Geometry {
     pub cumulative_at: usize,
     pub type_at: usize,
     pub locality_at: usize,
+    pub svn_at: usize,
     pub answer_max: usize,
     pub root_mark: u32,
     pub retired_word: u32,
@@ -89,6 +91,7 @@ pub fn constants() -> Geometry
         cumulative_at: CUMULATIVE_AT,
         type_at: TYPE_AT,
         locality_at: LOCALITY_AT,
+        svn_at: SVN_AT,
         answer_max: ANSWER_MAX,
         root_mark: ROOT_MARK,
         retired_word: RETIRED_WORD,

@@ -12,7 +12,7 @@ pub const REGISTER_WORDS: usize = 12;
 
 pub const NODES: usize = 24;
 
-pub const NODE_WORDS: usize = 34;
+pub const NODE_WORDS: usize = 35;
 
 // The first word of each part of the image.
 pub const MARK_AT: usize = 0;
@@ -56,6 +56,8 @@ pub const CUMULATIVE_AT: usize = 20;
 pub const TYPE_AT: usize = 32;
 
 pub const LOCALITY_AT: usize = 33;
+
+pub const SVN_AT: usize = 34;
 
 // What stands for the root's parent, each word of a retired handle, the root's flags and its type.
 pub const ROOT_MARK: u32 = 0xFF;

@@ -7,13 +7,13 @@ use mathlib.Core.List.{List, []}
 use mathlib.Core.Option.{Option, none, some}
 use lib.ListN.{length, getD, set, take, length-append}
 use lib.Seq.{sets}
-use Rattle.layout.specs.Sizes.{nodeWords, registerWords, tagAt, handleAt, handleWords, flagsAt, currentAt, cumulativeAt, typeAt, localityAt}
+use Rattle.layout.specs.Sizes.{nodeWords, registerWords, tagAt, handleAt, handleWords, flagsAt, currentAt, cumulativeAt, typeAt, localityAt, svnAt}
 use Rattle.layout.specs.Words.{tab, zeros, wordsAt, words48, flat}
 use Rattle.layout.proofs.Tab.{length-zeros, getD-zeros, tab-full, tab-is}
 use Rattle.layout.proofs.Packing.{length-words}
 use Rattle.layout.proofs.Blocks.{offset, block-at, block-sets}
 use Rattle.tree.specs.Tree.{retiredWords}
-use Rattle.nodes.specs.Record.{Node, defaultHandle, retiredHandle, handleRow, fieldsFrom, fieldsOf, nodeRow, placeRow, withHandle, withCurrent, withCumulative}
+use Rattle.nodes.specs.Record.{Node, defaultHandle, retiredHandle, handleRow, fieldsFrom, fieldsOf, nodeRow, placeRow, measurementsRow, withHandle, withCurrent, withCumulative}
 
 pub length-handle : (h : List ℕ) → length (handleRow h) ≡ handleWords
 length-handle h = length-words handleWords h 0
@@ -49,6 +49,9 @@ module _ (n : Node) where
   locality-begins : offset (fieldsOf n) 7 ≡ localityAt
   locality-begins = omega (arith, length-handle (n .handle), length48 (n .current), length48 (n .cumulative))
 
+  svn-begins : offset (fieldsOf n) 8 ≡ svnAt
+  svn-begins = omega (arith, length-handle (n .handle), length48 (n .current), length48 (n .cumulative))
+
   -- ---- the fields by name
 
   pub row-first : getD (nodeRow n) 0 0 ≡ 1 + 2 ^ 16 * n .parent
@@ -73,6 +76,9 @@ module _ (n : Node) where
   pub row-locality : getD (nodeRow n) localityAt 0 ≡ n .locality
   row-locality = field-word 7 0 localityAt locality-begins (omega arith)
 
+  pub row-svn : getD (nodeRow n) svnAt 0 ≡ n .svn
+  row-svn = field-word 8 0 svnAt svn-begins (omega arith)
+
   pub store-handle : (h : List ℕ) → sets (nodeRow n) handleAt (handleRow h) ≡ nodeRow (withHandle h n)
   unfolding nodeRow
   store-handle h = field-sets 2 handleAt (handleRow h) refl (omega arith) (length-handle h ∙ sym (length-handle (n .handle)))
@@ -90,6 +96,9 @@ unfolding nodeRow
 length-row none = length-zeros nodeWords
 length-row (some n) = simp (length-append, length-handle, length-words)
 
+from : (at j : ℕ) → at + j - at ≡ j
+from at j = omega arith
+
 -- ---- a row from its words, with tag 0 and the default handle, as the code makes it
 
 pub default-row : handleRow defaultHandle ≡ zeros handleWords
@@ -100,9 +109,9 @@ pub retired-row : handleRow retiredHandle ≡ retiredWords
 unfolding wordsAt tab
 retired-row = refl
 
-module _ (first flags type locality : ℕ) (current cumulative : List ℕ) (hc : length current ≡ registerWords) (hm : length cumulative ≡ registerWords) where
+module _ (first flags type locality svn : ℕ) (current cumulative : List ℕ) (hc : length current ≡ registerWords) (hm : length cumulative ≡ registerWords) where
   abbrev raw : List (List ℕ)
-  raw = fieldsFrom first 0 (zeros handleWords) flags current cumulative type locality
+  raw = fieldsFrom first 0 (zeros handleWords) flags current cumulative type locality svn
 
   pub raw-zero : (j : ℕ) → j < flagsAt → 0 < j → getD (flat raw) j 0 ≡ 0
   raw-zero j h l = elim (decLt j handleAt) [
@@ -125,6 +134,9 @@ module _ (first flags type locality : ℕ) (current cumulative : List ℕ) (hc :
   pub raw-locality : (j : ℕ) → j ≡ localityAt → getD (flat raw) j 0 ≡ locality
   raw-locality j e = block-at raw 7 0 j (omega (arith, length-zeros handleWords)) (omega arith)
 
+  pub raw-svn : (j : ℕ) → j ≡ svnAt → getD (flat raw) j 0 ≡ svn
+  raw-svn j e = block-at raw 8 0 j (omega (arith, length-zeros handleWords)) (omega arith)
+
   raw-length : length (flat raw) ≡ nodeWords
   raw-length = simp (length-append, length-zeros) (omega arith)
 
@@ -133,3 +145,16 @@ module _ (first flags type locality : ℕ) (current cumulative : List ℕ) (hc :
   raw-filled l h e =
       let f : ℕ → ℕ = λ i. getD (flat raw) i 0 in
       tab-full f l nodeWords h e ∙ tab-is f (flat raw) nodeWords raw-length (λ i b. refl)
+
+-- ---- a root's new measurements, in the places that they have in a node
+
+module _ (current cumulative : List ℕ) where
+  pub measurements-current : (j : ℕ) → j < registerWords → getD (measurementsRow current cumulative) (currentAt + j) 0 ≡ getD (words48 current) j 0
+  measurements-current j h =
+      raw-current 0 0 0 0 0 (words48 current) (words48 cumulative) (length48 current) (length48 cumulative) (currentAt + j) (omega arith) (omega arith)
+      ∙ ap (λ (i : ℕ). getD (words48 current) i 0) (from currentAt j)
+
+  pub measurements-cumulative : (j : ℕ) → j < registerWords → getD (measurementsRow current cumulative) (cumulativeAt + j) 0 ≡ getD (words48 cumulative) j 0
+  measurements-cumulative j h =
+      raw-cumulative 0 0 0 0 0 (words48 current) (words48 cumulative) (length48 current) (length48 cumulative) (cumulativeAt + j) (omega arith) (omega arith)
+      ∙ ap (λ (i : ℕ). getD (words48 cumulative) i 0) (from cumulativeAt j)

@@ -19,7 +19,7 @@ retiredHandle = replicate (4 * handleWords) 0xFF
 abbrev pub handleRow : List ℕ → List ℕ
 handleRow h = wordsAt handleWords h 0
 
--- a used node; handle and measurements are byte strings of 20 and 48
+-- a used node; handle and measurements are byte strings of 20 and 48, the svn is of its measurement (document 02, §7)
 pub record Node : Type 0 where
   pub parent : ℕ
   pub tag : ℕ
@@ -29,16 +29,17 @@ pub record Node : Type 0 where
   pub cumulative : List ℕ
   pub type : ℕ
   pub locality : ℕ
+  pub svn : ℕ
 
--- a node's words, field by field: word 0, tag, handle, flags, current, cumulative, type, locality
-abbrev pub fieldsFrom : ℕ → ℕ → List ℕ → ℕ → List ℕ → List ℕ → ℕ → ℕ → List (List ℕ)
-fieldsFrom first tag handle flags current cumulative type locality =
-    (first ∷ []) ∷ (tag ∷ []) ∷ handle ∷ (flags ∷ []) ∷ current ∷ cumulative ∷ (type ∷ []) ∷ (locality ∷ []) ∷ []
+-- a node's words, field by field: word 0, tag, handle, flags, current, cumulative, type, locality, svn
+abbrev pub fieldsFrom : ℕ → ℕ → List ℕ → ℕ → List ℕ → List ℕ → ℕ → ℕ → ℕ → List (List ℕ)
+fieldsFrom first tag handle flags current cumulative type locality svn =
+    (first ∷ []) ∷ (tag ∷ []) ∷ handle ∷ (flags ∷ []) ∷ current ∷ cumulative ∷ (type ∷ []) ∷ (locality ∷ []) ∷ (svn ∷ []) ∷ []
 
 -- "0 low half 1 if used .., high half the parent's index"
 abbrev pub fieldsOf : Node → List (List ℕ)
 fieldsOf n =
-    fieldsFrom (1 + 2 ^ 16 * n .parent) (n .tag) (handleRow (n .handle)) (n .flags) (words48 (n .current)) (words48 (n .cumulative)) (n .type) (n .locality)
+    fieldsFrom (1 + 2 ^ 16 * n .parent) (n .tag) (handleRow (n .handle)) (n .flags) (words48 (n .current)) (words48 (n .cumulative)) (n .type) (n .locality) (n .svn)
 
 unfoldable pub nodeRow : Node → List ℕ
 nodeRow n = flat (fieldsOf n)
@@ -49,27 +50,29 @@ placeRow none = zeros nodeWords
 placeRow (some n) = nodeRow n
 
 -- a node that a boot or a stash makes: tag 0, default handle
-abbrev pub newNode : ℕ → ℕ → List ℕ → List ℕ → ℕ → ℕ → Node
-newNode parent flags current cumulative type locality =
-    record { parent = parent; tag = 0; handle = defaultHandle; flags = flags; current = current; cumulative = cumulative; type = type; locality = locality }
+abbrev pub newNode : ℕ → ℕ → List ℕ → List ℕ → ℕ → ℕ → ℕ → Node
+newNode parent flags current cumulative type locality svn =
+    record { parent = parent; tag = 0; handle = defaultHandle; flags = flags; current = current; cumulative = cumulative; type = type; locality = locality; svn = svn }
 
 -- a root's new measurements in the places that they have in a node; the other words are zero
 abbrev pub measurementsRow : List ℕ → List ℕ → List ℕ
-measurementsRow current cumulative = flat (fieldsFrom 0 0 (zeros handleWords) 0 (words48 current) (words48 cumulative) 0 0)
+measurementsRow current cumulative = flat (fieldsFrom 0 0 (zeros handleWords) 0 (words48 current) (words48 cumulative) 0 0 0)
 
 -- ---- a node with one field replaced
 
+-- handle and measurements anew; what else a node holds stays from its making on
+abbrev pub remade : List ℕ → List ℕ → List ℕ → Node → Node
+remade handle current cumulative n =
+    record { parent = n .parent; tag = n .tag; handle = handle; flags = n .flags; current = current; cumulative = cumulative; type = n .type; locality = n .locality; svn = n .svn }
+
 abbrev pub withHandle : List ℕ → Node → Node
-withHandle v n =
-    record { parent = n .parent; tag = n .tag; handle = v; flags = n .flags; current = n .current; cumulative = n .cumulative; type = n .type; locality = n .locality }
+withHandle v n = remade v (n .current) (n .cumulative) n
 
 abbrev pub withCurrent : List ℕ → Node → Node
-withCurrent v n =
-    record { parent = n .parent; tag = n .tag; handle = n .handle; flags = n .flags; current = v; cumulative = n .cumulative; type = n .type; locality = n .locality }
+withCurrent v n = remade (n .handle) v (n .cumulative) n
 
 abbrev pub withCumulative : List ℕ → Node → Node
-withCumulative v n =
-    record { parent = n .parent; tag = n .tag; handle = n .handle; flags = n .flags; current = n .current; cumulative = v; type = n .type; locality = n .locality }
+withCumulative v n = remade (n .handle) (n .current) v n
 
 -- ---- the tree that a list of places makes
 

@@ -11,6 +11,7 @@ use layout::FLAGS_AT;
 use layout::LOCALITY_AT;
 use layout::NODE_WORDS;
 use layout::REGISTER_WORDS;
+use layout::SVN_AT;
 use layout::TYPE_AT;
 use slices::little_endian::pack;
 
@@ -22,10 +23,11 @@ fn row_word(
     cumulative: [u32; REGISTER_WORDS],
     kind: u32,
     locality: u32,
+    svn: u32,
     j: usize,
 ) -> u32
     requires { ⌜ j < nodeWords ⌝ }
-    ensures { λ r. ⌜ r ≡ getD (flat (fieldsFrom first 0 (zeros handleWords) flags current cumulative kind locality)) j 0 ⌝ }
+    ensures { λ r. ⌜ r ≡ getD (flat (fieldsFrom first 0 (zeros handleWords) flags current cumulative kind locality svn)) j 0 ⌝ }
 {
     if j < 1 {
         return first;
@@ -45,7 +47,10 @@ fn row_word(
     if j < LOCALITY_AT {
         return kind;
     }
-    locality
+    if j < SVN_AT {
+        return locality;
+    }
+    svn
 }
 
 // A node's words, with tag 0 and the default handle.
@@ -56,15 +61,16 @@ fn row_of(
     cumulative: [u8; 48],
     kind: u32,
     locality: u32,
+    svn: u32,
 ) -> [u32; NODE_WORDS]
-    ensures { λ r. ⌜ r ≡ flat (fieldsFrom first 0 (zeros handleWords) flags (words48 current) (words48 cumulative) kind locality) ⌝ }
+    ensures { λ r. ⌜ r ≡ flat (fieldsFrom first 0 (zeros handleWords) flags (words48 current) (words48 cumulative) kind locality svn) ⌝ }
 {
     let now = pack(&current, 0);
     let all = pack(&cumulative, 0);
     let mut row = [0u32; NODE_WORDS];
     let mut j = 0;
     while j < NODE_WORDS {
-        row[j] = row_word(first, flags, now, all, kind, locality, j);
+        row[j] = row_word(first, flags, now, all, kind, locality, svn, j);
         j += 1;
     }
     row
@@ -78,8 +84,9 @@ pub fn node_row(
     cumulative: [u8; 48],
     kind: u32,
     locality: u32,
+    svn: u32,
 ) -> [u32; NODE_WORDS]
-    ensures { λ r. ⌜ r ≡ nodeRow (newNode parent flags current cumulative kind locality) ⌝ }
+    ensures { λ r. ⌜ r ≡ nodeRow (newNode parent flags current cumulative kind locality svn) ⌝ }
 {
     row_of(
         1 + 65536 * (parent as u32),
@@ -88,6 +95,7 @@ pub fn node_row(
         cumulative,
         kind,
         locality,
+        svn,
     )
 }
 
@@ -95,5 +103,5 @@ pub fn node_row(
 pub fn measurements_row(current: [u8; 48], cumulative: [u8; 48]) -> [u32; NODE_WORDS]
     ensures { λ r. ⌜ r ≡ measurementsRow current cumulative ⌝ }
 {
-    row_of(0, 0, current, cumulative, 0, 0)
+    row_of(0, 0, current, cumulative, 0, 0, 0)
 }

@@ -15,10 +15,10 @@ measured d = extended (zeros 48) d
 abbrev pub extendedByBoot : List ℕ → BootInputs → List ℕ
 extendedByBoot register x = extendedByEach register (x .runtime ∷ x .manifest ∷ [])
 
--- a stash's node: below the old holder, no flag, current the digest, type from the request, locality the caller
+-- a stash's node: below the old holder, no flag, current the digest, type and svn (document 02, §7) from the request, locality the caller
 abbrev pub childNode : ℕ → Measurement → Node
-childNode holder x = newNode holder 0 (x .digest) (measured (x .digest)) (x .type) (x .caller)
+childNode holder x = newNode holder 0 (x .digest) (measured (x .digest)) (x .type) (x .caller) (x .svn)
 
--- a cold boot's root: internal, current the journey, cumulative measured from zero by it, type RTJM, locality 0
+-- a cold boot's root: internal, current the journey, cumulative measured from zero by it, type RTJM, locality and svn 0
 abbrev pub rootNode : List ℕ → Node
-rootNode journey = newNode rootMark internalFlag journey (measured journey) rootType 0
+rootNode journey = newNode rootMark internalFlag journey (measured journey) rootType 0 0

@@ -44,6 +44,8 @@ const TYPE_FROM: usize = 4;
 
 const DIGEST_FROM: usize = 8;
 
+const SVN_FROM: usize = 56;
+
 // The words that a stash will store: PCR31, and the new node below `holder`.
 fn stash_values(image: &[u32], bytes: &[u8], caller: u32, holder: usize) -> Values
     requires { ⌜ (length (now bytes) ≡ stashLength) × (holder ≤ nodeCount) × (holder ≡ nodeWith nodeCount (treeIn (now image)) defaultWords) ⌝ }
@@ -53,7 +55,8 @@ fn stash_values(image: &[u32], bytes: &[u8], caller: u32, holder: usize) -> Valu
     let register = extended_register(image, STASH_REGISTER, digest);
     let cumulative = extend([0u8; 48], digest);
     let kind = read32(bytes, TYPE_FROM);
-    let node = node_row(holder as u16, 0, digest, cumulative, kind, caller);
+    let svn = read32(bytes, SVN_FROM);
+    let node = node_row(holder as u16, 0, digest, cumulative, kind, caller, svn);
     Values {
         register,
         journey: [0u32; REGISTER_WORDS],

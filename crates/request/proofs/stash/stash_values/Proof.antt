@@ -18,6 +18,9 @@ extend-requires c κs = tt
 read32-requires : tie.Need-read32-requires
 read32-requires c κs = tt
 
+read32-requires-2 : tie.Need-read32-requires-2
+read32-requires-2 c κs = tt
+
 cast-node-row : tie.Need-cast-node-row
 cast-node-row c = search needs
 
@@ -27,14 +30,15 @@ node-row-requires c κs = tt
 returns : tie.Need-returns
 unfolding zeros
 returns c =
-    let g = c .before .before .before .before .before .before .before in
+    let g = c .before .before .before .before .before .before .before .before in
     let digest = part-within 48 (g .args .bytes .now) 8 (omega (arith, g .pre .0)) in
     rw (
       c .node-row .ensures,
-      c .before .before .before .extended-register .ensures,
-      c .before .before .extend .ensures,
-      c .before .before .before .before .bytes-of .ensures,
-      c .before .read32 .ensures,
+      c .before .before .before .before .extended-register .ensures,
+      c .before .before .before .extend .ensures,
+      c .before .before .before .before .before .bytes-of .ensures,
+      c .before .before .read32 .ensures,
+      c .before .read322 .ensures,
       ← g .pre .2,
       digest,
     )
@@ -47,6 +51,7 @@ stash-values-spec =
     extended-register-requires
     extend-requires
     read32-requires
+    read32-requires-2
     cast-node-row
     node-row-requires
     returns)
