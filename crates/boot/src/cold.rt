@@ -27,6 +27,11 @@ use sha384::digest::extend;
 use slices::little_endian::pack;
 use table::Kind;
 
+// The root's locality and svn.
+const ROOT_LOCALITY: u32 = 0;
+
+const ROOT_SVN: u32 = 0;
+
 // The words that a cold boot will store.
 fn cold_values(x: Inputs) -> Values
     ensures { λ r. ⌜ r ≡ coldValues (given x) ⌝ }
@@ -41,8 +46,8 @@ fn cold_values(x: Inputs) -> Values
         journey,
         cumulative,
         ROOT_TYPE,
-        0,
-        0,
+        ROOT_LOCALITY,
+        ROOT_SVN,
     );
     let secret = x.secret;
     let words = pack(&secret, 0);
