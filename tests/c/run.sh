@@ -68,8 +68,8 @@ pieces() { # SUFFIX BYTES COMMAND..
 # What the example of the buyer's midnight prints as its list: the root, whose digest is that of both boots, and
 # the program with its svn if it is in.
 boots=("$(of 'the runtime')" "$(of 'its manifest')")
-without=$(printf '  node 0  RTJM  %.12s..  svn 0' "$(extended "$zero" "${boots[@]}" "${boots[@]}")")
-with=$(printf '%s\n  node 1  HOUR  %.12s..  svn 300' "$without" "$(of 'counts hours')")
+list_without=$(printf '  node 0  RTJM  %.12s..  svn 0' "$(extended "$zero" "${boots[@]}" "${boots[@]}")")
+list_with=$(printf '%s\n  node 1  HOUR  %.12s..  svn 300' "$list_without" "$(of 'counts hours')")
 
 # What the example of the gearbox maker prints of a register: zero extended by the digest of his program.
 register_value=$(extended "$zero" "$(of 'shifts gears')")
@@ -88,7 +88,7 @@ run_examples() { # SUFFIX COMMAND..
     expect "boot$suffix" "$(printf abc | sha384sum | cut -d' ' -f1)"$'\n'FFFFFEDB "$("$@" "$built/boot$suffix")"
     expect "midnight$suffix 0" 'Attestation is on. The new measurement is not in the list, and all earlier ones are.' \
         "$(midnight "$@" "$built/midnight$suffix" 0)"
-    expect "midnight$suffix 0, its list" "$without" "$("$@" "$built/midnight$suffix" 0 | grep '^  node')"
+    expect "midnight$suffix 0, its list" "$list_without" "$("$@" "$built/midnight$suffix" 0 | grep '^  node')"
     for cut in 1 $((stash_stores - 1)); do
         expect "midnight$suffix $cut" \
             'The unit found a work that was cut: attestation is off and the secret is erased, until a cold boot starts a new list. You are shown no list, so none with a hole in it.' \
@@ -97,7 +97,7 @@ run_examples() { # SUFFIX COMMAND..
     done
     expect "midnight$suffix $stash_stores" 'Attestation is on. The new measurement is in the list, and all earlier ones are.' \
         "$(midnight "$@" "$built/midnight$suffix" "$stash_stores")"
-    expect "midnight$suffix $stash_stores, its list" "$with" "$("$@" "$built/midnight$suffix" "$stash_stores" | grep '^  node')"
+    expect "midnight$suffix $stash_stores, its list" "$list_with" "$("$@" "$built/midnight$suffix" "$stash_stores" | grep '^  node')"
     expect "midnight$suffix $stash_stores, its answer" 'The unit had its answer of 12 bytes ready, its checksum fine.' \
         "$("$@" "$built/midnight$suffix" "$stash_stores" | grep answer)"
 }
