@@ -1,12 +1,12 @@
 /*
  * The buyer's midnight: a cold boot, a new measurement (stash) whose power is
  * cut after a number of stores, and the restart, which is an update boot. Says
- * in plain words what the buyer then has. The same C calls are a unit's
- * firmware.
+ * in plain words what the buyer then has, and prints the list: of each
+ * measurement type, digest and svn. The same C calls are a unit's firmware.
  *
  *   rt staticlib waggleloft
  *   gcc -std=c11 @tests/c/flags examples/midnight.c target/staticlib/libwaggleloft.a -o target/midnight
- *   target/midnight STORES       0 to 53: the stores that are made before the power is cut
+ *   target/midnight STORES       0 to 54: the stores that are made before the power is cut
  */
 #include <stdio.h>
 #include <stdlib.h>
@@ -22,9 +22,9 @@ static uint32_t work[WAGGLELOFT_WORK_WORDS];
 #define ATTESTATION_WORD 1
 #define SECRET_WORD 4
 #define SECRET_WORDS 12
-#define NODES_WORD 400
-#define NODE_WORDS 34
-#define NODES 24
+
+/* Stores of a stash: the mark twice, PCR31, the new node, the handle of the one before it. */
+#define STASH_STORES (2 + 12 + WAGGLELOFT_NODE_WORDS + 5)
 
 static void refused(const char *what, uint32_t number)
 {
@@ -45,16 +45,21 @@ static size_t run(size_t most)
     return made;
 }
 
-/* The stash of a program's digest: checksum, type 4, digest 48, svn 4. */
-static void open_stash(const uint8_t digest[WAGGLELOFT_SHA384_BYTES])
+static void put_number(uint8_t *bytes, uint32_t number)
+{
+    for (int i = 0; i < 4; i++)
+        bytes[i] = (uint8_t)(number >> (8 * i) & 0xFFU);
+}
+
+/* The stash of a program's digest and svn: checksum, type 4, digest 48, svn 4. */
+static void open_stash(const uint8_t digest[WAGGLELOFT_SHA384_BYTES], uint32_t svn)
 {
     const uint8_t no_handoff[1] = {0};
-    uint8_t request[REQUEST_BYTES] = {0};
+    uint8_t request[REQUEST_BYTES];
     memcpy(request + 4, "HOUR", 4);
     memcpy(request + 8, digest, WAGGLELOFT_SHA384_BYTES);
-    uint32_t sum = waggleloft_checksum(WAGGLELOFT_STASH_MEASUREMENT, request + 4, REQUEST_BYTES - 4);
-    for (int i = 0; i < 4; i++)
-        request[i] = (uint8_t)(sum >> (8 * i) & 0xFFU);
+    put_number(request + 8 + WAGGLELOFT_SHA384_BYTES, svn);
+    put_number(request, waggleloft_checksum(WAGGLELOFT_STASH_MEASUREMENT, request + 4, REQUEST_BYTES - 4));
     uint32_t number = waggleloft_open_request(image, WAGGLELOFT_IMAGE_WORDS, WAGGLELOFT_STASH_MEASUREMENT, request,
                                               sizeof request, 1, no_handoff, 0, false, work, WAGGLELOFT_WORK_WORDS);
     if (number != WAGGLELOFT_OK)
@@ -64,11 +69,9 @@ static void open_stash(const uint8_t digest[WAGGLELOFT_SHA384_BYTES])
 /* An answer begins with its checksum, made with the command code taken as zero. */
 static bool checksum_fine(const uint8_t *answer, size_t len)
 {
-    uint32_t sum = waggleloft_checksum(0, answer + 4, len - 4);
-    for (int i = 0; i < 4; i++)
-        if (answer[i] != (uint8_t)(sum >> (8 * i) & 0xFFU))
-            return false;
-    return true;
+    uint8_t sum[4];
+    put_number(sum, waggleloft_checksum(0, answer + 4, len - 4));
+    return memcmp(answer, sum, sizeof sum) == 0;
 }
 
 static void take_answer(void)
@@ -94,13 +97,37 @@ static bool any(const uint32_t *words, size_t n)
     return false;
 }
 
-/* Used nodes: the list's measurements and its root. A free node is all zero. */
+/* A node's first word. */
+static const uint32_t *node(size_t index) { return image + WAGGLELOFT_NODES_AT + WAGGLELOFT_NODE_WORDS * index; }
+
+/* Whether a node is used: one of the list's measurements, or its root. */
+static bool used(size_t index) { return (node(index)[0] & 0xFFFFU) == 1; }
+
 static size_t used_nodes(void)
 {
-    size_t used = 0;
-    for (size_t i = 0; i < NODES; i++)
-        used += any(image + NODES_WORD + NODE_WORDS * i, NODE_WORDS) ? 1 : 0;
-    return used;
+    size_t count = 0;
+    for (size_t i = 0; i < WAGGLELOFT_NODES; i++)
+        count += used(i) ? 1 : 0;
+    return count;
+}
+
+/* Byte i of the words, a word's lowest byte first. */
+static unsigned byte(const uint32_t *words, size_t i) { return (unsigned)(words[i / 4] >> (8 * (i % 4)) & 0xFFU); }
+
+/* A line for each used node: its type, the first bytes of its digest, its svn. */
+static void print_list(void)
+{
+    for (size_t i = 0; i < WAGGLELOFT_NODES; i++) {
+        if (!used(i))
+            continue;
+        printf("  node %zu  ", i);
+        for (size_t k = 0; k < 4; k++)
+            printf("%c", (char)byte(node(i) + WAGGLELOFT_NODE_TYPE, k));
+        printf("  ");
+        for (size_t k = 0; k < 6; k++)
+            printf("%02x", byte(node(i) + WAGGLELOFT_NODE_CURRENT, k));
+        printf("..  svn %lu\n", (unsigned long)node(i)[WAGGLELOFT_NODE_SVN]);
+    }
 }
 
 static void tell_buyer(uint32_t outcome, size_t before)
@@ -111,6 +138,8 @@ static void tell_buyer(uint32_t outcome, size_t before)
                image[ATTESTATION_WORD] == 1 ? "on" : "off", any(image + SECRET_WORD, SECRET_WORDS) ? "kept" : "erased");
         return;
     }
+    printf("The list:\n");
+    print_list();
     printf("Attestation is %s. The new measurement is %s the list, and all earlier ones are.\n",
            image[ATTESTATION_WORD] == 1 ? "on" : "off", used_nodes() > before ? "in" : "not in");
 }
@@ -119,8 +148,8 @@ static size_t argument(int argc, char **argv)
 {
     char *end = NULL;
     long n = argc == 2 ? strtol(argv[1], &end, 10) : -1;
-    if (n < 0 || n > 53 || end == argv[1] || *end != '\0') {
-        fprintf(stderr, "usage: midnight STORES, 0 to 53: the stores that are made before the power is cut\n");
+    if (n < 0 || n > STASH_STORES || end == argv[1] || *end != '\0') {
+        fprintf(stderr, "usage: midnight STORES, 0 to %d: the stores that are made before the power is cut\n", STASH_STORES);
         exit(2);
     }
     return (size_t)n;
@@ -144,8 +173,9 @@ int main(int argc, char **argv)
     printf("Cold boot: %zu stores.\n", run(SIZE_MAX));
 
     size_t before = used_nodes();
-    open_stash(program);
-    printf("A new measurement: the power is cut after store %zu of 53.\n", run(cut));
+    open_stash(program, 300);
+    size_t all = waggleloft_left(work, WAGGLELOFT_WORK_WORDS);
+    printf("A new measurement: the power is cut after store %zu of %zu.\n", run(cut), all);
     take_answer();
     memset(work, 0, sizeof work);
 

@@ -54,8 +54,12 @@ extern "C" {
 
 /* ---- Sizes ---- */
 
-/* Words of the unit's image. */
-#define WAGGLELOFT_IMAGE_WORDS 1216
+/*
+ * Words of the unit's image. The number may grow with a later version; an image
+ * of another length is refused with WAGGLELOFT_WRONG_IMAGE, also one of 1,216
+ * words from before the nodes had an svn.
+ */
+#define WAGGLELOFT_IMAGE_WORDS 1240
 
 /*
  * Words of a work: every length of a work that is passed below is this one.
@@ -63,7 +67,7 @@ extern "C" {
  * overwrite them once the work has run). The number may grow with a later
  * version; waggleloft_work_words() is the archive's own.
  */
-#define WAGGLELOFT_WORK_WORDS 105
+#define WAGGLELOFT_WORK_WORDS 106
 
 /* The longest answer, in bytes: a buffer of so many bytes takes every answer. */
 #define WAGGLELOFT_ANSWER_LONGEST 104
@@ -125,7 +129,14 @@ size_t waggleloft_sha384_state_bytes(void);
 
 /* ---- Command codes of the mailbox ---- */
 
+/*
+ * Adds a measurement to the list: a free node takes it. The request is 60 bytes:
+ * checksum 4, type 4, digest 48, svn 4 (the program's security version number,
+ * lowest byte first). The answer is 12 bytes: checksum, status and dpe result,
+ * 4 each.
+ */
 #define WAGGLELOFT_STASH_MEASUREMENT UINT32_C(0x4D454153)
+
 #define WAGGLELOFT_DISABLE_ATTESTATION UINT32_C(0x4453424C)
 #define WAGGLELOFT_IDENTITY_KEY UINT32_C(0x49444549)
 #define WAGGLELOFT_VERIFY_SIGNATURE UINT32_C(0x53494756)
@@ -143,6 +154,30 @@ size_t waggleloft_sha384_state_bytes(void);
  */
 #define WAGGLELOFT_EXTEND_FIRST UINT32_C(4)
 #define WAGGLELOFT_EXTEND_LAST UINT32_C(30)
+
+/* ---- The list of measurements ---- */
+
+/*
+ * The list is the used nodes of the image. Read it where no work is under way and
+ * attestation, word 1 of the image, is 1. Node i is the WAGGLELOFT_NODE_WORDS words
+ * from word WAGGLELOFT_NODES_AT + WAGGLELOFT_NODE_WORDS * i on. A free node is all
+ * zero. Of a used one the low half of its first word is 1, and the high half is
+ * the index of the node that it hangs on; 0xFF of the root, which stands for the
+ * runtime.
+ */
+#define WAGGLELOFT_NODES 24
+#define WAGGLELOFT_NODES_AT 400
+#define WAGGLELOFT_NODE_WORDS 35
+
+/*
+ * Words within a node: the measured digest (twelve words, a word's lowest byte
+ * first), and one each the type, the caller's number (locality) and the svn, as
+ * the request gave them. The root's digest is PCR3's, its svn is 0.
+ */
+#define WAGGLELOFT_NODE_CURRENT 8
+#define WAGGLELOFT_NODE_TYPE 32
+#define WAGGLELOFT_NODE_LOCALITY 33
+#define WAGGLELOFT_NODE_SVN 34
 
 /* ---- Openings ---- */
 

@@ -5,6 +5,7 @@ set -euo pipefail
 cd "$(dirname "${BASH_SOURCE[0]}")/.."
 . tests/tally.sh
 . tests/expect.sh
+. tests/sizes.sh
 
 work=$(mktemp -d)
 trap 'rm -rf "$work"' EXIT
@@ -73,6 +74,15 @@ expect 'cargo without a test fails' '0 1' "$(counted cargo 0 'test result: ok. 0
 expect 'a plain step that passes counts nothing' '0 0' "$(counted plain 0 '9 passed, 9 failed\n')"
 expect 'a plain step that fails counts once' '0 1' "$(counted plain 3 '')"
 
+# ---- the sizes that scripts take from the header
+
+expect 'words of the image, nodes, where they stand, words of a node' '1240 24 400 35' \
+    "$IMAGE_WORDS $NODES $NODES_AT $NODE_WORDS"
+expect 'digest and svn of a node' '8 34' "$NODE_CURRENT $NODE_SVN"
+expect 'stores of a cold boot, a stash, an extension, an update' '1241 54 14 62' \
+    "$COLD_STORES $STASH_STORES $EXTENSION_STORES $UPDATE_STORES"
+expect 'a size that the header has not' refused "$(header NODE >"$work/log" && echo taken || echo refused)"
+
 # ---- the picture of docs/ANSWER.md
 
 # Prints the last line of the check of a picture, and its exit status.
@@ -82,7 +92,7 @@ pictured() { # FILE
     echo "$(tail -n 1 "$work/log"), status $status"
 }
 
-sed 's/>1 to 52</>1 to 51</' docs/answer.svg >"$work/other.svg"
+sed '0,/>1 to /s//>2 to /' docs/answer.svg >"$work/other.svg"
 expect 'another picture is refused' '0 passed, 1 failed, status 1' "$(pictured "$work/other.svg")"
 expect 'a picture that is not there is refused' '0 passed, 1 failed, status 1' \
     "$(pictured "$work/none.svg")"

@@ -6,6 +6,8 @@
 # the work, stores that far, cuts the power, and opens an update boot that it runs to its end.
 set -euo pipefail
 root=$(cd "$(dirname "$(readlink -f "${BASH_SOURCE[0]}")")/.." && pwd)
+. "$root/tests/sizes.sh"
+image_bytes=$((4 * IMAGE_WORDS))
 
 usage() {
     echo "usage: tests/picture.sh --check [FILE] | --write [FILE] | --help"
@@ -46,8 +48,8 @@ sealed() { # CODE LENGTH SUM ARGUMENTS: SUM is that of the arguments' bytes
     local sum=$((($1 >> 24) + ($1 >> 16 & 255) + ($1 >> 8 & 255) + ($1 & 255) + $3))
     request "$1" "$2" "$(u32 $((0x100000000 - sum)))$4"
 }
-stash() { # BYTE: the digest is 48 of it
-    sealed 0x4D454153 60 $((48 * $1)) "$(repeat 4 0)$(repeat 48 "$1")$(repeat 4 0)"
+stash() { # BYTE: the digest is 48 of it, and the svn 4
+    sealed 0x4D454153 60 $((52 * $1)) "$(repeat 4 0)$(repeat 52 "$1")"
 }
 extend() { # REGISTER BYTE
     sealed 0x50435245 56 $(($1 + 48 * $2)) "$(u32 "$1")$(repeat 48 "$2")"
@@ -74,7 +76,7 @@ reboot=X$(update_boot 0x11 0x33 0x22 0 && all)D
 last_number() { tail -c 4 | od -An -tu4 --endian=little | tr -d ' \n'; }
 
 # The words of the image that a script shows last.
-last_image() { tail -c 4864 | od -An -v -tu4 --endian=little -w4864 | tr -s ' '; }
+last_image() { tail -c "$image_bytes" | od -An -v -tu4 --endian=little -w"$image_bytes" | tr -s ' '; }
 
 # For every cut of a kind a line that says what is left: on (and the list is as if the work had never
 # begun, or changed by the whole work), asked (off, as it was or by the whole work) or torn (off, the
@@ -90,14 +92,14 @@ cuts() { # KIND
         # shellcheck disable=SC2059
         printf "$unit${before[k]}${opening[k]}$(stores "$n")$reboot"
     done | "$driver" |
-        od -An -v -tu1 -w$((33 + replies[k] + 8 + 17 + 4 + 4864)) |
-        awk -v made=$((33 + replies[k])) -v number="$number" -v untouched="$untouched" '
+        od -An -v -tu1 -w$((33 + replies[k] + 8 + 17 + 4 + image_bytes)) |
+        awk -v made=$((33 + replies[k])) -v number="$number" -v untouched="$untouched" -v image_words="$IMAGE_WORDS" '
             # the number in four bytes at an offset of the line; a word of the image
             function at(k) { return $(k + 1) + 256 * ($(k + 2) + 256 * ($(k + 3) + 256 * $(k + 4))) }
             function image(k) { return at(made + 29 + 4 * k) }
             {
                 words = ""
-                for (k = 0; k < 1216; k++) words = words sprintf(" %.0f", image(k))
+                for (k = 0; k < image_words; k++) words = words sprintf(" %.0f", image(k))
                 secret = 0
                 for (k = 4; k < 16; k++) if (image(k)) secret = 1
                 same = words == untouched

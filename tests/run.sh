@@ -4,6 +4,7 @@
 set -euo pipefail
 root=$(cd "$(dirname "${BASH_SOURCE[0]}")/.." && pwd)
 . "$root/tests/expect.sh"
+. "$root/tests/digests.sh"
 
 work=$(mktemp -d)
 trap 'rm -rf "$work"' EXIT
@@ -127,44 +128,34 @@ expect 'a build that fails: where the log is' 1 "$(grep -c 'target/build.log say
 
 # ---- the demo
 
-# x extended by each of the digests that follow, by the machine's own sha384sum.
-extended() { # X D ..
-    local x=$1
-    shift
-    while [ $# -gt 0 ]; do
-        # shellcheck disable=SC2059
-        x=$(printf "$(printf '%s' "$x$1" | sed 's/../\\x&/g')" | sha384sum | cut -d ' ' -f 1)
-        shift
-    done
-    echo "$x"
-}
-of() { printf '%s' "$1" | sha384sum | cut -d ' ' -f 1; }
-zero=$(printf '%096d' 0)
 root_digest=$(extended "$zero" "$(of 'runtime 1')" "$(of 'manifest 1')" "$(of 'runtime 2')" "$(of 'manifest 2')")
 
-# The demo's tree of that many programs.
+# The demo's tree of that many programs: of each the name, the digest and the svn.
 tree() { # COUNT
-    local names=('driving hours' 'resting hours' clock 'night shift') k
-    printf '     runtime 1, then 2  %.12s..\n' "$root_digest"
+    local names=('driving hours' 'resting hours' clock 'night shift') svns=(3 1 300 7) k
+    printf '     runtime 1, then 2  %.12s..  svn 0\n' "$root_digest"
     for ((k = 0; k < $1; k++)); do
-        printf '     %*s└─ %s  %.12s..\n' $((3 * k)) '' "${names[k]}" "$(of "${names[k]}")"
+        printf '     %*s└─ %s  %.12s..  svn %d\n' $((3 * k)) '' "${names[k]}" "$(of "${names[k]}")" "${svns[k]}"
     done
 }
+
+# The stores of a stash.
+stores=54
 
 expect 'the demo: three trees' "$(tree 3 && tree 3 && tree 4)"$'\nstatus 0' \
     "$(outcome "$root/demo" | grep -E '^     |^status')"
 expect 'the demo: four cuts' \
     "$(printf '%s\n' \
-        'Cut after 0 of 53 stores. The restart gives outcome 1' \
+        "Cut after 0 of $stores stores. The restart gives outcome 1" \
         'The new program is not in the list' \
-        'Cut after 1 of 53 stores. The restart gives outcome 3' \
+        "Cut after 1 of $stores stores. The restart gives outcome 3" \
         'The measurement was torn' \
-        'Cut after 52 of 53 stores. The restart gives outcome 3' \
+        "Cut after $((stores - 1)) of $stores stores. The restart gives outcome 3" \
         'The measurement was torn' \
-        'Cut after 53 of 53 stores. The restart gives outcome 1' \
+        "Cut after $stores of $stores stores. The restart gives outcome 1" \
         'The new program is in the list')" \
     "$("$root/demo" 2>/dev/null |
-        grep -oE 'Cut after [0-9]+ of 53 stores. The restart gives outcome [0-9]|The new program is( not)? in the list|The measurement was torn')"
+        grep -oE 'Cut after [0-9]+ of [0-9]+ stores. The restart gives outcome [0-9]|The new program is( not)? in the list|The measurement was torn')"
 
 expect 'card 10 in words' \
     'The result is 0 (accepted). The answer of 8 bytes has the checksum 0x00000000 and FIPS status 0 (always 0).' \

@@ -41,7 +41,8 @@ int main()
               outcome == WAGGLELOFT_COLD, "cold boot");
     while (waggleloft_store(work.data(), work.size(), image.data(), image.size()) == WAGGLELOFT_OK)
         stores++;
-    check(stores == 1217, "stores of a cold boot");
+    check(stores == image.size() + 1, "stores of a cold boot: every word, and the mark twice");
+    check(image[WAGGLELOFT_NODES_AT] == 0x00FF0001 && image[WAGGLELOFT_NODES_AT + WAGGLELOFT_NODE_SVN] == 0, "the root and its svn");
     check(waggleloft_open_request(image.data(), image.size(), WAGGLELOFT_DISABLE_ATTESTATION, disable.data(), disable.size(), 0,
                                   none.data(), 0, false, work.data(), work.size()) == WAGGLELOFT_OK, "disable");
     check(waggleloft_left(work.data(), work.size()) == 15, "stores of a disabling");

@@ -1,7 +1,7 @@
 /*
  * Calls the engine of include/waggleloft.h from C: every cut of a stash and of an
- * extension, every refusal, what a boot and an extension measure, works of other
- * lengths, and works with damaged words. What a store has to do is computed here
+ * extension, every refusal, what a boot, a stash and an extension measure, the
+ * nodes' svn, works of other lengths, and works with damaged words. What a store has to do is computed here
  * from a table of the kinds of work (KINDS), not asked of the engine. Every
  * buffer is on the heap with its exact length, so that valgrind sees a byte too
  * many. Prints a line for each check that failed and, last, 'N passed, M failed'.
@@ -20,13 +20,23 @@
 #define DIGEST WAGGLELOFT_SHA384_BYTES
 #define LONGEST WAGGLELOFT_ANSWER_LONGEST
 
-/* Where each field of a work stands in its words: docs/DECISIONS.md, "C and Rust". */
-enum { KIND_IN = 0, FIRST_IN = 1, SECOND_IN = 3, POSITION_IN = 5, LENGTH_IN = 7, REGISTER_IN = 9, JOURNEY_IN = 21, NODE_IN = 33, SECRET_IN = 67 };
+#define NODES WAGGLELOFT_NODES
+#define NODE_WORDS WAGGLELOFT_NODE_WORDS
 
-/* Words of the image: a register's first, and the first of node 0 and of node 1. */
+/* Where each field of a work stands in its words: docs/DECISIONS.md, "C and Rust". */
+enum { KIND_IN = 0, FIRST_IN = 1, SECOND_IN = 3, POSITION_IN = 5, LENGTH_IN = 7, REGISTER_IN = 9, JOURNEY_IN = 21, NODE_IN = 33,
+       SECRET_IN = NODE_IN + NODE_WORDS, ANSWER_IN = SECRET_IN + 12 };
+
+/* Words of the image: a register's first, and a node's. */
 #define PCR(number) (16 + 12 * (number))
-#define NODE_0 400
-#define NODE_1 434
+#define NODE(index) (WAGGLELOFT_NODES_AT + NODE_WORDS * (index))
+
+/* Words of a node. */
+enum { HANDLE = 2, CURRENT = WAGGLELOFT_NODE_CURRENT, CUMULATIVE = 20, TYPE = WAGGLELOFT_NODE_TYPE,
+       LOCALITY = WAGGLELOFT_NODE_LOCALITY, SVN = WAGGLELOFT_NODE_SVN };
+
+/* Stores of each kind of work, as the papers give them. */
+enum { DISABLING_STORES = 15, STASH_STORES = 54, UPDATE_STORES = 62, COLD_STORES = 1241, EXTENSION_STORES = 14 };
 
 /* ---- the kinds of work ---- */
 
@@ -57,9 +67,10 @@ struct kind {
 static bool open_kept(void), open_disabling(void), open_stash(void), open_update(void), open_cold(void), open_extension(void);
 
 #define ANY {0, UINT64_MAX}
-#define A_NODE {0, 23}
+#define A_NODE {0, NODES - 1}
 #define SAME(stores, at, value) {stores, at, 0, 0, 0, value}
 #define COPY(stores, at, from) {stores, at, 0, 0, from, 0}
+#define INTO(stores, word, by) {stores, NODE(0) + (word), NODE_WORDS, by, NODE_IN + (word), 0}
 #define BEGIN SAME(1, 0, 0)
 #define END SAME(1, 0, 1)
 
@@ -67,17 +78,19 @@ static bool open_kept(void), open_disabling(void), open_stash(void), open_update
 enum { NOTHING, DISABLING, STASH, UPDATE, COLD, EXTENSION, NO_KIND };
 static const struct kind KINDS[NO_KIND] = {
     [NOTHING] = {"a kept boot", 0, ANY, ANY, open_kept, {SAME(0, 0, 0)}},
-    [DISABLING] = {"a disabling", 15, ANY, ANY, open_disabling, {BEGIN, SAME(1, 1, 0), SAME(12, 4, 0), END}},
-    [STASH] = {"a stash", 53, A_NODE, A_NODE, open_stash,
-               {BEGIN, COPY(12, PCR(31), REGISTER_IN), {34, NODE_0, 34, FIRST_IN, NODE_IN, 0},
-                {5, NODE_0 + 2, 34, SECOND_IN, 0, UINT32_MAX}, END}},
-    [UPDATE] = {"an update", 62, A_NODE, ANY, open_update,
+    [DISABLING] = {"a disabling", DISABLING_STORES, ANY, ANY, open_disabling, {BEGIN, SAME(1, 1, 0), SAME(12, 4, 0), END}},
+    [STASH] = {"a stash", STASH_STORES, A_NODE, A_NODE, open_stash,
+               {BEGIN, COPY(12, PCR(31), REGISTER_IN), INTO(NODE_WORDS, 0, FIRST_IN),
+                {5, NODE(0) + HANDLE, NODE_WORDS, SECOND_IN, 0, UINT32_MAX}, END}},
+    [UPDATE] = {"an update", UPDATE_STORES, A_NODE, ANY, open_update,
                 {BEGIN, COPY(12, PCR(2), REGISTER_IN), COPY(12, PCR(3), JOURNEY_IN), COPY(12, 4, SECRET_IN),
-                 {12, NODE_0 + 8, 34, FIRST_IN, NODE_IN + 8, 0}, {12, NODE_0 + 20, 34, FIRST_IN, NODE_IN + 20, 0}, END}},
-    [COLD] = {"a cold boot", 1217, ANY, ANY, open_cold,
+                 INTO(12, CURRENT, FIRST_IN), INTO(12, CUMULATIVE, FIRST_IN), END}},
+    [COLD] = {"a cold boot", COLD_STORES, ANY, ANY, open_cold,
               {BEGIN, SAME(1, 1, 1), SAME(2, 2, 0), COPY(12, 4, SECRET_IN), SAME(24, PCR(0), 0), COPY(12, PCR(2), REGISTER_IN),
-               COPY(12, PCR(3), JOURNEY_IN), SAME(336, PCR(4), 0), COPY(34, NODE_0, NODE_IN), SAME(782, NODE_1, 0), END}},
-    [EXTENSION] = {"an extension", 14, {4, 30}, ANY, open_extension, {BEGIN, {12, PCR(0), 12, FIRST_IN, REGISTER_IN, 0}, END}},
+               COPY(12, PCR(3), JOURNEY_IN), SAME(336, PCR(4), 0), COPY(NODE_WORDS, NODE(0), NODE_IN),
+               SAME(NODE_WORDS * (NODES - 1), NODE(1), 0), END}},
+    [EXTENSION] = {"an extension", EXTENSION_STORES, {4, 30}, ANY, open_extension,
+                   {BEGIN, {12, PCR(0), 12, FIRST_IN, REGISTER_IN, 0}, END}},
 };
 
 /* The works of requests that leave attestation on: the answer's bytes, and a word that is 0 until the work has counted. */
@@ -85,7 +98,7 @@ static const struct kind KINDS[NO_KIND] = {
 static const struct {
     uint32_t kind;
     size_t answer, shown;
-} ANSWERED[] = {{STASH, 12, NODE_1}, {EXTENSION, 8, PCR(EXTENDED)}};
+} ANSWERED[] = {{STASH, 12, NODE(1)}, {EXTENSION, 8, PCR(EXTENDED)}};
 
 /* Each command's code and its request's bytes. */
 static const struct {
@@ -394,58 +407,69 @@ static void check_answer_bytes(void)
     check(open_stash() && answers(off, 12), "card 4: the answer of a stash while off");
 }
 
-/* Works of other lengths: their own number, before a boot's inputs are looked at, and nothing is written. */
+/* A work of that many words: its own number, before a boot's inputs are looked at, and nothing is written. */
+static bool work_refused(size_t len)
+{
+    uint32_t outcome = 99;
+    size_t written = 99;
+    uint32_t *words = lent(len, sizeof *words), *before = lent(len, sizeof *before);
+    memcpy(words, work, (len < WORK ? len : WORK) * sizeof *words);
+    memcpy(before, words, len * sizeof *words);
+    remember();
+    bool all = waggleloft_left(words, len) == 0;
+    all = all && waggleloft_store(words, len, image, IMAGE) == WAGGLELOFT_WRONG_WORK;
+    all = all && waggleloft_answer(words, len, buffer, LONGEST, &written) == WAGGLELOFT_WRONG_WORK;
+    all = all && waggleloft_open_cold_boot(image, IMAGE, runtime, DIGEST, none, 0, secret, DIGEST, words, len, &outcome) == WAGGLELOFT_WRONG_WORK;
+    all = all && waggleloft_open_update_boot(image, IMAGE, runtime, DIGEST, none, 0, secret, DIGEST, true, words, len, &outcome) == WAGGLELOFT_WRONG_WORK;
+    all = all && waggleloft_open_request(image, IMAGE, WAGGLELOFT_DISABLE_ATTESTATION, request, 4, 7, none, 0, false, words, len) == WAGGLELOFT_WRONG_WORK;
+    all = all && image_same() && buffer_same() && outcome == 99 && written == 99 && memcmp(words, before, len * sizeof *words) == 0;
+    free(words);
+    free(before);
+    return all;
+}
+
 static void check_work_lengths(void)
 {
     bool all = true;
-    uint32_t outcome = 99;
-    size_t written = 99;
     fresh();
-    for (size_t len = 0; len <= 2 * WORK; len++) {
-        uint32_t *words = lent(len, sizeof *words), *before = lent(len, sizeof *before);
-        if (len == WORK) {
-            free(words);
-            free(before);
-            continue;
-        }
-        memcpy(words, work, (len < WORK ? len : WORK) * sizeof *words);
-        memcpy(before, words, len * sizeof *words);
-        remember();
-        all = all && waggleloft_left(words, len) == 0;
-        all = all && waggleloft_store(words, len, image, IMAGE) == WAGGLELOFT_WRONG_WORK;
-        all = all && waggleloft_answer(words, len, buffer, LONGEST, &written) == WAGGLELOFT_WRONG_WORK;
-        all = all && waggleloft_open_cold_boot(image, IMAGE, runtime, DIGEST, none, 0, secret, DIGEST, words, len, &outcome) == WAGGLELOFT_WRONG_WORK;
-        all = all && waggleloft_open_update_boot(image, IMAGE, runtime, DIGEST, none, 0, secret, DIGEST, true, words, len, &outcome) == WAGGLELOFT_WRONG_WORK;
-        all = all && waggleloft_open_request(image, IMAGE, WAGGLELOFT_DISABLE_ATTESTATION, request, 4, 7, none, 0, false, words, len) == WAGGLELOFT_WRONG_WORK;
-        all = all && image_same() && buffer_same() && outcome == 99 && written == 99 && memcmp(words, before, len * sizeof *words) == 0;
-        free(words);
-        free(before);
-    }
+    for (size_t len = 0; len <= 2 * WORK; len++)
+        if (len != WORK)
+            all = work_refused(len) && all;
     check(all, "works of every other length get 28, and nothing is written");
+    check(work_refused(105), "a work from before the nodes had an svn, of 105 words, gets 28");
 }
 
-/* Images of other lengths: 1, before a boot's inputs are looked at, and nothing is written. */
+/*
+ * An image of that many words, the unit's as far as they go: 1, before a boot's inputs are looked at, and nothing is
+ * written.
+ */
+static bool image_refused(size_t len)
+{
+    uint32_t outcome = 99;
+    uint32_t *words = lent(len, sizeof *words), *before = lent(len, sizeof *before);
+    memcpy(words, image, (len < IMAGE ? len : IMAGE) * sizeof *words);
+    memcpy(before, words, len * sizeof *words);
+    remember();
+    bool all = waggleloft_store(work, WORK, words, len) == WAGGLELOFT_WRONG_IMAGE;
+    all = all && waggleloft_open_cold_boot(words, len, runtime, DIGEST, none, 0, secret, DIGEST, work, WORK, &outcome) == WAGGLELOFT_WRONG_IMAGE;
+    all = all && waggleloft_open_update_boot(words, len, runtime, DIGEST, none, 0, secret, DIGEST, true, work, WORK, &outcome) == WAGGLELOFT_WRONG_IMAGE;
+    all = all && waggleloft_open_request(words, len, WAGGLELOFT_DISABLE_ATTESTATION, request, 4, 7, none, 0, false, work, WORK) == WAGGLELOFT_WRONG_IMAGE;
+    all = all && work_same() && outcome == 99 && memcmp(words, before, len * sizeof *words) == 0;
+    free(words);
+    free(before);
+    return all;
+}
+
 static void check_image_lengths(void)
 {
-    static const size_t lengths[] = {0, 1, 2, 399, IMAGE - 1, IMAGE + 1, 2 * IMAGE};
-    uint32_t outcome = 99;
+    static const size_t lengths[] = {0, 1, 2, 399, IMAGE - NODE_WORDS, IMAGE + NODE_WORDS, 2 * IMAGE};
     fresh();
     bool all = open_stash();
-    for (size_t i = 0; i < COUNT(lengths); i++) {
-        size_t len = lengths[i];
-        uint32_t *words = lent(len, sizeof *words), *before = lent(len, sizeof *before);
-        fill_words(words, len);
-        memcpy(before, words, len * sizeof *words);
-        remember();
-        all = all && waggleloft_store(work, WORK, words, len) == WAGGLELOFT_WRONG_IMAGE;
-        all = all && waggleloft_open_cold_boot(words, len, runtime, DIGEST, none, 0, secret, DIGEST, work, WORK, &outcome) == WAGGLELOFT_WRONG_IMAGE;
-        all = all && waggleloft_open_update_boot(words, len, runtime, DIGEST, none, 0, secret, DIGEST, true, work, WORK, &outcome) == WAGGLELOFT_WRONG_IMAGE;
-        all = all && waggleloft_open_request(words, len, WAGGLELOFT_DISABLE_ATTESTATION, request, 4, 7, none, 0, false, work, WORK) == WAGGLELOFT_WRONG_IMAGE;
-        all = all && work_same() && outcome == 99 && memcmp(words, before, len * sizeof *words) == 0;
-        free(words);
-        free(before);
-    }
+    for (size_t i = 0; i < COUNT(lengths); i++)
+        all = image_refused(lengths[i]) && all;
     check(all, "images of other lengths get 1, and nothing is written");
+    check(image_refused(IMAGE - 1) && image_refused(IMAGE + 1), "card 6: images of one word less and one more get 1");
+    check(image_refused(1216), "an image from before the nodes had an svn, of 1,216 words, gets 1");
 }
 
 /* ---- a boot's inputs ---- */
@@ -537,12 +561,12 @@ static void check_accepted_boots(void)
  *     EXTENDED_ONCE=$(extend "$zero" "$(x48 66)")
  *     EXTENDED_TWICE=$(extend "$EXTENDED_ONCE" "$(x48 77)")
  *
- * and on an image from before the manifest, whose cold boot measured the runtime alone:
+ * and on an image with another history, whose boot measured the runtime alone:
  *
- *     EARLIER_PCR=$(extend "$zero" "$(x48 11)")
- *     EARLIER_CUMULATIVE=$(extend "$zero" "$EARLIER_PCR")
- *     EARLIER_UPDATE_PCR3=$(extend "$(extend "$EARLIER_PCR" "$(x48 44)")" "$(x48 55)")
- *     EARLIER_UPDATE_CUMULATIVE=$(extend "$EARLIER_CUMULATIVE" "$EARLIER_UPDATE_PCR3")
+ *     ALONE_PCR=$(extend "$zero" "$(x48 11)")
+ *     ALONE_CUMULATIVE=$(extend "$zero" "$ALONE_PCR")
+ *     ALONE_UPDATE_PCR3=$(extend "$(extend "$ALONE_PCR" "$(x48 44)")" "$(x48 55)")
+ *     ALONE_UPDATE_CUMULATIVE=$(extend "$ALONE_CUMULATIVE" "$ALONE_UPDATE_PCR3")
  */
 #define COLD_PCR \
     "7c20878ab486f86b065344e2e6d2382b2cad84955ea5ecfd" \
@@ -568,16 +592,16 @@ static void check_accepted_boots(void)
 #define EXTENDED_TWICE \
     "f91a2bdf761107e2b2787ce2d9fa2fcc279d1808535bca1e" \
     "97f9091dc5efa489227946767b530c118c2179665438164d"
-#define EARLIER_PCR \
+#define ALONE_PCR \
     "c7304e0aec48bbbc703c099b425485b7a60e19b6a83630b0" \
     "fb558ce2f02ec41e4cdf205335b4b613b3537ad83eb62262"
-#define EARLIER_CUMULATIVE \
+#define ALONE_CUMULATIVE \
     "90e12f80ae975da76b38a0aea79c903914e2d1dc98a6aa06" \
     "b79e2b97a0bdae3c8130e1795c45d28396a92f234b2c0050"
-#define EARLIER_UPDATE_PCR3 \
+#define ALONE_UPDATE_PCR3 \
     "cbc44656c3615d68e8a06432dc8aa7430c7465424a7bf33f" \
     "b90db6e943e383ac943ec33e18eebe648e1ad241a6d48fbe"
-#define EARLIER_UPDATE_CUMULATIVE \
+#define ALONE_UPDATE_CUMULATIVE \
     "b9d77c2cfe30f50a923689b73b22b622e9ddbaf1d615d4ce" \
     "43d351fe1e2f0f5db53adbd534e9483e71a9fcd20026c6e0"
 
@@ -604,8 +628,8 @@ static void put_digest(size_t at, const char *hex)
 /* PCR2, PCR3, and current and cumulative of the root, which is node 0. */
 static bool measured(const char *pcr2, const char *pcr3, const char *cumulative)
 {
-    return holds_digest(PCR(2), pcr2) && holds_digest(PCR(3), pcr3) && holds_digest(NODE_0 + 8, pcr3) &&
-           holds_digest(NODE_0 + 20, cumulative);
+    return holds_digest(PCR(2), pcr2) && holds_digest(PCR(3), pcr3) && holds_digest(NODE(0) + CURRENT, pcr3) &&
+           holds_digest(NODE(0) + CUMULATIVE, cumulative);
 }
 
 /* A boot whose digests are 48 times these bytes, run to its end. */
@@ -627,12 +651,12 @@ static void check_measured_boots(void)
           "an update measures runtime, then manifest: PCR2 from zero, PCR3 from its old value");
     check(boot_of(true, 0x33, 0x11) && holds_digest(PCR(2), EXCHANGED_PCR) && holds_digest(PCR(3), EXCHANGED_PCR),
           "exchanged digests are accepted and give other registers");
-    put_digest(PCR(2), EARLIER_PCR);
-    put_digest(PCR(3), EARLIER_PCR);
-    put_digest(NODE_0 + 8, EARLIER_PCR);
-    put_digest(NODE_0 + 20, EARLIER_CUMULATIVE);
-    check(boot_of(false, 0x44, 0x55) && measured(UPDATE_PCR2, EARLIER_UPDATE_PCR3, EARLIER_UPDATE_CUMULATIVE),
-          "an image from before the manifest goes on with an update");
+    put_digest(PCR(2), ALONE_PCR);
+    put_digest(PCR(3), ALONE_PCR);
+    put_digest(NODE(0) + CURRENT, ALONE_PCR);
+    put_digest(NODE(0) + CUMULATIVE, ALONE_CUMULATIVE);
+    check(boot_of(false, 0x44, 0x55) && measured(UPDATE_PCR2, ALONE_UPDATE_PCR3, ALONE_UPDATE_CUMULATIVE),
+          "an update goes on from PCR3 and the root, whatever they were extended by");
     fill_bytes(runtime, DIGEST);
     fill_bytes(manifest, DIGEST);
 }
@@ -717,7 +741,7 @@ static void check_order_of_extension(void)
     put_number(0, waggleloft_checksum(WAGGLELOFT_EXTEND_PCR, request + 4, 52) + 1);
     image[0] = 2;
     image[1] = 0;
-    image[NODE_0] = UINT32_MAX;
+    image[NODE(0)] = UINT32_MAX;
     static const uint32_t order[] = {WAGGLELOFT_WRONG_IMAGE, WAGGLELOFT_UNFINISHED, WAGGLELOFT_UNKNOWN_CODE, WAGGLELOFT_WRONG_LENGTH,
                                      WAGGLELOFT_BAD_CHECKSUM, WAGGLELOFT_WRONG_REGISTER, WAGGLELOFT_ATTESTATION_OFF, WAGGLELOFT_OK};
     for (size_t i = 0; i < COUNT(order); i++) {
@@ -746,7 +770,7 @@ static void check_extensions_and_nodes(void)
     bool all = true;
     fresh();
     for (uint32_t i = 0; i < 50; i++) {
-        fill_words(image + NODE_0, i == 0 ? 1 : IMAGE - NODE_0);
+        fill_words(image + NODE(0), i == 0 ? 1 : IMAGE - NODE(0));
         memset(image + PCR(4), 0, DIGEST);
         all = ask(WAGGLELOFT_STASH_MEASUREMENT, 60) == WAGGLELOFT_NOT_WELL_FORMED && extends_to(4, 0x66, EXTENDED_ONCE) && all;
     }
@@ -754,7 +778,7 @@ static void check_extensions_and_nodes(void)
     const uint8_t full[12] = {0xFF, 0xFF, 0xFF, 0xFF, 0, 0, 0, 0, 1};
     all = true;
     fresh();
-    for (size_t i = 1; i < 24; i++)
+    for (size_t i = 1; i < NODES; i++)
         all = open_stash() && run(SIZE_MAX) == KINDS[STASH].stores && all;
     all = open_stash() && waggleloft_left(work, WORK) == 0 && answers(full, sizeof full) && all;
     check(all && extends_to(4, 0x66, EXTENDED_ONCE) && extends_to(30, 0x66, EXTENDED_ONCE), "an extension with all nodes used");
@@ -851,6 +875,157 @@ static void check_no_kinds(void)
     check(all, "6 and above are no kinds: 0 left, 9 and 7");
 }
 
+/* ---- the svn of a node ---- */
+
+/* A stash of type "HOUR", 48 times 0x66 and that svn. */
+static bool open_svn(uint32_t svn)
+{
+    memcpy(request + 4, "HOUR", 4);
+    set_digest(0x66);
+    put_number(56, svn);
+    return open_stash();
+}
+
+static bool stashes(uint32_t svn) { return open_svn(svn) && run(SIZE_MAX) == STASH_STORES; }
+
+/* What that stash makes of an image just booted: PCR31, node 1 below the root, and the root's handle. */
+static void put_stashed(uint32_t svn)
+{
+    uint32_t *node = image + NODE(1);
+    put_digest(PCR(31), EXTENDED_ONCE);
+    memset(node, 0, NODE_WORDS * sizeof *node);
+    node[0] = 1;
+    memset(node + CURRENT, 0x66, DIGEST);
+    put_digest(NODE(1) + CUMULATIVE, EXTENDED_ONCE);
+    node[TYPE] = 0x52554F48; /* "HOUR", the first byte lowest */
+    node[LOCALITY] = 7;
+    node[SVN] = svn;
+    memset(image + NODE(0) + HANDLE, 0xFF, 20);
+}
+
+/* A stash run to its end: its words are overwritten after the opening, which has prepared the values. */
+static bool stash_holds(uint32_t svn)
+{
+    fresh();
+    bool holds = open_svn(svn);
+    put_stashed(svn);
+    remember();
+    memset(image + PCR(31), 0xEE, DIGEST);
+    memset(image + NODE(1), 0xEE, NODE_WORDS * sizeof *image);
+    memset(image + NODE(0) + HANDLE, 0xEE, 20);
+    return holds && run(SIZE_MAX) == STASH_STORES && image_same();
+}
+
+static void check_stashed_svn(void)
+{
+    fill_words(image, IMAGE);
+    fresh();
+    check(image[NODE(0) + SVN] == 0, "the root's svn after a cold boot");
+    check(stash_holds(0x04030201) && image[NODE(1) + SVN] == 0x04030201, "every word of a stash's node, the svn its last");
+    check(stash_holds(0) && stash_holds(UINT32_MAX), "an svn may be any number");
+}
+
+/* The words of a stash's work just opened. */
+static void check_words_of_stash(void)
+{
+    fresh();
+    remember();
+    put_stashed(0x04030201);
+    memset(work_before, 0, WORK * sizeof *work);
+    work_before[KIND_IN] = STASH;
+    work_before[FIRST_IN] = 1;
+    work_before[LENGTH_IN] = 12;
+    memcpy(work_before + REGISTER_IN, image + PCR(31), DIGEST);
+    memcpy(work_before + NODE_IN, image + NODE(1), NODE_WORDS * sizeof *image);
+    memcpy(image, image_before, IMAGE * sizeof *image);
+    check(open_svn(0x04030201) && work_same(), "the words of a stash: kind 2, node and old holder, PCR31, the node, its answer");
+}
+
+/* Every node used, each with an svn of its own; an update leaves them. */
+static void check_svn_of_every_node(void)
+{
+    bool all = true;
+    fresh();
+    for (uint32_t i = 1; i < NODES; i++)
+        all = stashes(0x01020304 * i) && all;
+    all = open_update() && run(SIZE_MAX) == UPDATE_STORES && all;
+    for (uint32_t i = 0; i < NODES; i++)
+        all = image[NODE(i) + SVN] == 0x01020304 * i && all;
+    check(all, "every node has its svn, also after an update");
+}
+
+/* The nodes are not well formed: a stash gets 11, and an update boot of either verdict would disable. */
+static bool malformed(void)
+{
+    remember();
+    return ask(WAGGLELOFT_STASH_MEASUREMENT, 60) == WAGGLELOFT_NOT_WELL_FORMED && image_same() && work_same() &&
+           would(true, WAGGLELOFT_DISABLED) && would(false, WAGGLELOFT_DISABLED);
+}
+
+/* A free node with one word that is not zero. */
+static bool free_word_holds(uint32_t index, uint32_t word, uint32_t value)
+{
+    image[NODE(index) + word] = value;
+    bool holds = malformed();
+    image[NODE(index) + word] = 0;
+    return holds;
+}
+
+static void check_free_svn(void)
+{
+    static const uint32_t values[] = {1, 0x01000000, UINT32_MAX};
+    bool svns = true, others = true;
+    fresh();
+    for (uint32_t index = 1; index < NODES; index++) {
+        for (size_t i = 0; i < COUNT(values); i++)
+            svns = free_word_holds(index, SVN, values[i]) && svns;
+        for (uint32_t word = 1; word < NODE_WORDS; word++)
+            others = free_word_holds(index, word, 1) && others;
+    }
+    check(svns, "a free node with an svn is not well formed");
+    check(others, "a free node is zero in every word");
+    uint32_t outcome = 99;
+    image[NODE(NODES - 1) + SVN] = 1;
+    check(update_boot(true, &outcome) == WAGGLELOFT_OK && outcome == WAGGLELOFT_DISABLED && run(SIZE_MAX) == DISABLING_STORES &&
+              image[1] == 0 && erased(),
+          "and an update boot switches attestation off");
+}
+
+/* Of a used node any svn is fine, the root's too; an update leaves it. */
+static void check_used_svn(void)
+{
+    static const uint32_t svns[] = {0, 1, 0x4D4A5452, 0x80000000, UINT32_MAX};
+    bool all = true;
+    for (size_t i = 0; i < COUNT(svns); i++) {
+        fresh();
+        all = stashes(5) && all;
+        image[NODE(0) + SVN] = svns[i];
+        image[NODE(1) + SVN] = ~svns[i];
+        all = open_update() && run(SIZE_MAX) == UPDATE_STORES && stashes(6) && all;
+        all = image[NODE(0) + SVN] == svns[i] && image[NODE(1) + SVN] == ~svns[i] && image[NODE(2) + SVN] == 6 && all;
+    }
+    check(all, "a used node may have any svn, and an update leaves the root's");
+    check(open_cold() && run(SIZE_MAX) == COLD_STORES && image[NODE(0) + SVN] == 0, "a cold boot does not");
+}
+
+/* A stash cut after so many stores, then an update boot; what it comes to. */
+static uint32_t outcome_of_cut(size_t cut)
+{
+    uint32_t outcome = 99;
+    fresh();
+    bool holds = open_svn(0x04030201) && run(cut) == cut && update_boot(true, &outcome) == WAGGLELOFT_OK;
+    run(SIZE_MAX);
+    return holds ? outcome : 99;
+}
+
+static void check_cut_svn(void)
+{
+    check(outcome_of_cut(1) == WAGGLELOFT_DISABLED && image[1] == 0, "card 12: off after store 1");
+    check(outcome_of_cut(STASH_STORES - 1) == WAGGLELOFT_DISABLED && image[1] == 0, "card 12: off after store 53");
+    check(outcome_of_cut(STASH_STORES) == WAGGLELOFT_UPDATED && image[1] == 1 && image[NODE(1) + SVN] == 0x04030201,
+          "card 12: on after store 54, with the svn in the list");
+}
+
 /* ---- refused requests and damaged works ---- */
 
 static bool request_refused(uint32_t code, size_t len, uint32_t number)
@@ -893,7 +1068,7 @@ static void check_refused_requests(void)
         check_kind(all, "no request in the middle of", ANSWERED[i].kind);
     }
     image[0] = 1;
-    image[NODE_0] = 0xFFFFFFFF;
+    image[NODE(0)] = 0xFFFFFFFF;
     remember();
     check(ask(WAGGLELOFT_STASH_MEASUREMENT, 60) == WAGGLELOFT_NOT_WELL_FORMED && work_same(), "nodes that are not well formed");
 }
@@ -911,13 +1086,17 @@ static bool damaged_holds(void)
     if (!finished)
         return number == WAGGLELOFT_STORES_LEFT && written == 99 && buffer_same() && work_same();
     return number == WAGGLELOFT_OK && written == length && work_same() &&
-           memcmp(buffer, &work_before[79], length) == 0 && memcmp(buffer + length, buffer_before + length, LONGEST - length) == 0;
+           memcmp(buffer, &work_before[ANSWER_IN], length) == 0 && memcmp(buffer + length, buffer_before + length, LONGEST - length) == 0;
 }
+
+/* A number, one below and one above. */
+#define AROUND(number) (number) - 1, number, (number) + 1
 
 static void check_damaged_works(void)
 {
-    static const uint32_t values[] = {0, 1, 2, 3, 4, 5, 6, 13, 14, 15, 23, 24, 30, 31, 52, 53, 54, 61, 62, 63,
-                                      103, 104, 105, 1216, 1217, 1218, 0x7FFFFFFF, 0x80000000, 0xFFFFFFFF};
+    static const uint32_t values[] = {0, 1, 2, 3, 4, 5, 6, AROUND(EXTENSION_STORES), AROUND(DISABLING_STORES), NODES - 1, NODES,
+                                      30, 31, AROUND(STASH_STORES), AROUND(UPDATE_STORES), AROUND(LONGEST), AROUND(COLD_STORES),
+                                      0x7FFFFFFF, 0x80000000, 0xFFFFFFFF};
     bool all = true;
     fill_words(image, IMAGE);
     for (int i = 0; i < 20000; i++) {
@@ -984,6 +1163,12 @@ int main(void)
     check_words_of_extension();
     check_moved_registers();
     check_no_kinds();
+    check_stashed_svn();
+    check_words_of_stash();
+    check_svn_of_every_node();
+    check_free_svn();
+    check_used_svn();
+    check_cut_svn();
     check_refused_requests();
     check_damaged_works();
 

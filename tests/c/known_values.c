@@ -123,7 +123,15 @@ static void check_names(void)
         const char *name;
         uint64_t found, expected;
     } names[] = {
-        {"words of an image", WAGGLELOFT_IMAGE_WORDS, 1216},
+        {"words of an image", WAGGLELOFT_IMAGE_WORDS, 1240},
+        {"nodes", WAGGLELOFT_NODES, 24},
+        {"the nodes' first word", WAGGLELOFT_NODES_AT, 400},
+        {"words of a node", WAGGLELOFT_NODE_WORDS, 35},
+        {"the nodes fill the image", WAGGLELOFT_NODES_AT + WAGGLELOFT_NODES * WAGGLELOFT_NODE_WORDS, WAGGLELOFT_IMAGE_WORDS},
+        {"a node's current measurement", WAGGLELOFT_NODE_CURRENT, 8},
+        {"a node's type", WAGGLELOFT_NODE_TYPE, 32},
+        {"a node's locality", WAGGLELOFT_NODE_LOCALITY, 33},
+        {"a node's svn", WAGGLELOFT_NODE_SVN, 34},
         {"the longest answer", WAGGLELOFT_ANSWER_LONGEST, 104},
         {"bytes of a digest", WAGGLELOFT_SHA384_BYTES, 48},
         {"the longest message", WAGGLELOFT_SHA384_LONGEST, 65535},

@@ -7,6 +7,7 @@
 set -euo pipefail
 cd "$(dirname "${BASH_SOURCE[0]}")/../.."
 . tests/expect.sh
+. tests/digests.sh
 archive=target/staticlib/libwaggleloft.a
 built=target/c
 [ -f "$archive" ] || { echo "$archive is not there: run 'rt staticlib waggleloft' first"; exit 1; }
@@ -15,6 +16,9 @@ mkdir -p "$built"
 # The programs that count their own checks, and the examples.
 tests=(tests/c/*.c tests/c/*.cpp)
 examples=(examples/*.c)
+
+# The stores of a stash.
+stash_stores=54
 
 name_of() { basename "${1%.*}"; } # SOURCE
 
@@ -61,17 +65,21 @@ pieces() { # SUFFIX BYTES COMMAND..
     expect "pieces$suffix of $bytes bytes from a pipe" "$digest" "$(head -c "$bytes" "$built/numbers" | "$@" "$built/pieces$suffix")"
 }
 
+# What the example of the buyer's midnight prints as its list: the root, whose digest is that of both boots, and
+# the program with its svn if it is in.
+boots=("$(of 'the runtime')" "$(of 'its manifest')")
+list_without=$(printf '  node 0  RTJM  %.12s..  svn 0' "$(extended "$zero" "${boots[@]}" "${boots[@]}")")
+list_with=$(printf '%s\n  node 1  HOUR  %.12s..  svn 300' "$list_without" "$(of 'counts hours')")
+
 # What the example of the gearbox maker prints of a register: zero extended by the digest of his program.
-zero=$(printf '%096d' 0)
-shifts=$(printf 'shifts gears' | sha384sum | cut -d' ' -f1)
-extended=$(printf %b "$(sed 's/../\\x&/g' <<<"$zero$shifts")" | sha384sum | cut -d' ' -f1)
+register_value=$(extended "$zero" "$(of 'shifts gears')")
 
 # All examples; COMMAND comes before each program.
 run_examples() { # SUFFIX COMMAND..
     local suffix=$1 bytes register
     shift
-    expect "gearbox$suffix" "PCR4 $extended" "$("$@" "$built/gearbox$suffix")"
-    expect "gearbox$suffix 30" "PCR30 $extended" "$("$@" "$built/gearbox$suffix" 30)"
+    expect "gearbox$suffix" "PCR4 $register_value" "$("$@" "$built/gearbox$suffix")"
+    expect "gearbox$suffix 30" "PCR30 $register_value" "$("$@" "$built/gearbox$suffix" 30)"
     for register in 3 31 0x104; do
         expect "gearbox$suffix $register" 'the extension was refused with number 12'$'\n''status 1' \
             "$(refused "$@" "$built/gearbox$suffix" "$register")"
@@ -80,15 +88,18 @@ run_examples() { # SUFFIX COMMAND..
     expect "boot$suffix" "$(printf abc | sha384sum | cut -d' ' -f1)"$'\n'FFFFFEDB "$("$@" "$built/boot$suffix")"
     expect "midnight$suffix 0" 'Attestation is on. The new measurement is not in the list, and all earlier ones are.' \
         "$(midnight "$@" "$built/midnight$suffix" 0)"
-    for cut in 1 52; do
+    expect "midnight$suffix 0, its list" "$list_without" "$("$@" "$built/midnight$suffix" 0 | grep '^  node')"
+    for cut in 1 $((stash_stores - 1)); do
         expect "midnight$suffix $cut" \
             'The unit found a work that was cut: attestation is off and the secret is erased, until a cold boot starts a new list. You are shown no list, so none with a hole in it.' \
             "$(midnight "$@" "$built/midnight$suffix" "$cut")"
+        expect "midnight$suffix $cut, no list" '' "$("$@" "$built/midnight$suffix" "$cut" | grep '^  node' || true)"
     done
-    expect "midnight$suffix 53" 'Attestation is on. The new measurement is in the list, and all earlier ones are.' \
-        "$(midnight "$@" "$built/midnight$suffix" 53)"
-    expect "midnight$suffix 53, its answer" 'The unit had its answer of 12 bytes ready, its checksum fine.' \
-        "$("$@" "$built/midnight$suffix" 53 | grep answer)"
+    expect "midnight$suffix $stash_stores" 'Attestation is on. The new measurement is in the list, and all earlier ones are.' \
+        "$(midnight "$@" "$built/midnight$suffix" "$stash_stores")"
+    expect "midnight$suffix $stash_stores, its list" "$list_with" "$("$@" "$built/midnight$suffix" "$stash_stores" | grep '^  node')"
+    expect "midnight$suffix $stash_stores, its answer" 'The unit had its answer of 12 bytes ready, its checksum fine.' \
+        "$("$@" "$built/midnight$suffix" "$stash_stores" | grep answer)"
 }
 
 all() { # SUFFIX COMMAND..
@@ -107,7 +118,7 @@ for suffix in '' .san; do
 done
 
 expect 'midnight without a number' 'status 2' "$(refused "$built/midnight")"
-expect 'midnight 54' 'status 2' "$(refused "$built/midnight" 54)"
+expect 'midnight with a store too many' 'status 2' "$(refused "$built/midnight" $((stash_stores + 1)))"
 expect 'gearbox with no number' 'status 2' "$(refused "$built/gearbox" four)"
 expect 'gearbox with 2^32 + 4' 'status 2' "$(refused "$built/gearbox" 4294967300)"
 expect 'pieces of no file' 'status 1' "$(refused "$built/pieces" "$built/none")"

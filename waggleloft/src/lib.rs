@@ -23,7 +23,7 @@
 //! };
 //! let outcome = work.open_cold_boot(&image, &inputs)?;
 //! assert_eq!(outcome, Outcome::Cold);
-//! assert_eq!(work.left(), 1217);
+//! assert_eq!(work.left(), IMAGE_WORDS + 1, "every word, and the flow mark twice");
 //! while work.left() > 0 {
 //!     work.store(&mut image)?;
 //! }
@@ -43,10 +43,11 @@ pub use refusal::Refusal;
 pub use running::Sha384;
 pub use work::{BootInputs, Outcome, Request, Work};
 
-/// Words of the unit's image.
-pub const IMAGE_WORDS: usize = 1216;
+/// Words of the unit's image. It may grow with a later version; an image of another length is refused with
+/// [`Refusal::WrongImage`], also one of 1,216 words from before the nodes had an svn.
+pub const IMAGE_WORDS: usize = 1240;
 /// Words of a work. It may grow with a later version.
-pub const WORK_WORDS: usize = 105;
+pub const WORK_WORDS: usize = 106;
 /// The longest answer, in bytes: a buffer of so many bytes takes every answer.
 pub const ANSWER_LONGEST: usize = 104;
 /// Bytes of a SHA-384 digest.
@@ -64,10 +65,46 @@ pub const EXTEND_FIRST: u32 = 4;
 /// The last register that [`code::EXTEND_PCR`] extends.
 pub const EXTEND_LAST: u32 = 30;
 
+/// Nodes of the image; the list of measurements is the used ones. Read it where no work is under way and
+/// attestation, word 1 of the image, is 1.
+///
+/// Node *i* is the [`NODE_WORDS`] words of the image from word [`NODES_AT`] + [`NODE_WORDS`] *i* on. A free
+/// node is all zero. Of a used one the low half of its first word is 1, and the high half is the index of
+/// the node that it hangs on; 0xFF of the root, which stands for the runtime.
+///
+/// ```
+/// use waggleloft::{IMAGE_WORDS, NODES_AT, NODE_SVN, NODE_WORDS};
+///
+/// /// The svn of each measurement in the list.
+/// fn svns(image: &[u32; IMAGE_WORDS]) -> impl Iterator<Item = u32> + '_ {
+///     let nodes = image[NODES_AT..].chunks_exact(NODE_WORDS);
+///     nodes.filter(|node| node[0] & 0xFFFF == 1).map(|node| node[NODE_SVN])
+/// }
+/// # assert_eq!(svns(&[0; IMAGE_WORDS]).count(), 0);
+/// ```
+pub const NODES: usize = 24;
+/// The first word of the nodes.
+pub const NODES_AT: usize = 400;
+/// Words of a node.
+pub const NODE_WORDS: usize = 35;
+/// Within a node: the first of the twelve words of the measured digest, a word's lowest byte first; the
+/// root's is PCR3.
+pub const NODE_CURRENT: usize = 8;
+/// Within a node: the measurement's type, as the request gave it.
+pub const NODE_TYPE: usize = 32;
+/// Within a node: the number of the caller that stashed it (locality).
+pub const NODE_LOCALITY: usize = 33;
+/// Within a node: the measurement's svn, as the request gave it; the root's is 0.
+pub const NODE_SVN: usize = 34;
+
 /// Command codes of the mailbox. What a command refuses of its own comes after
 /// [`BadChecksum`](crate::Refusal::BadChecksum).
 pub mod code {
-    /// Adds a measurement to the list. Its own refusal: [`NotWellFormed`](crate::Refusal::NotWellFormed).
+    /// Adds a measurement to the list: a free node takes it ([`NODES`](crate::NODES)). The request is 60 bytes:
+    /// checksum 4, type 4, digest 48, svn 4 (the program's security version number, lowest byte first). The
+    /// answer is 12 bytes: checksum, status and dpe result, 4 each.
+    ///
+    /// Its own refusal: [`NotWellFormed`](crate::Refusal::NotWellFormed).
     pub const STASH_MEASUREMENT: u32 = 0x4D45_4153;
     /// Switches attestation off.
     pub const DISABLE_ATTESTATION: u32 = 0x4453_424C;

@@ -2,8 +2,16 @@
 
 use waggleloft::{
     archive_sizes, checksum, code, sha384, BootInputs, Outcome, Refusal, Request, Work,
-    ANSWER_LONGEST, EXTEND_FIRST, EXTEND_LAST, IMAGE_WORDS, WORK_WORDS,
+    ANSWER_LONGEST, EXTEND_FIRST, EXTEND_LAST, IMAGE_WORDS, NODES, NODES_AT, NODE_CURRENT,
+    NODE_LOCALITY, NODE_SVN, NODE_TYPE, NODE_WORDS, WORK_WORDS,
 };
+
+/// Stores of each kind of work.
+const COLD: usize = 1241;
+const STASH: usize = 54;
+const UPDATE: usize = 62;
+const DISABLING: usize = 15;
+const EXTENSION: usize = 14;
 
 const INPUTS: BootInputs<'static> = BootInputs {
     runtime: &[0x11; 48],
@@ -25,7 +33,7 @@ fn fresh() -> Vec<u32> {
     let mut image = vec![0xEEEE_EEEE; IMAGE_WORDS];
     let mut work = Work::new();
     assert_eq!(work.open_cold_boot(&image, &INPUTS), Ok(Outcome::Cold));
-    assert_eq!(run(&mut work, &mut image, usize::MAX), 1217);
+    assert_eq!(run(&mut work, &mut image, usize::MAX), COLD);
     image
 }
 
@@ -45,6 +53,16 @@ fn register(number: u32) -> usize {
     16 + 12 * number as usize
 }
 
+/// The first word of a node.
+fn node(index: usize) -> usize {
+    NODES_AT + NODE_WORDS * index
+}
+
+/// The word of a node's svn.
+fn svn_at(index: usize) -> usize {
+    node(index) + NODE_SVN
+}
+
 /// A request of these arguments, with its checksum.
 fn sealed(code: u32, arguments: &[u8]) -> Vec<u8> {
     [&checksum(code, arguments).to_le_bytes(), arguments].concat()
@@ -59,13 +77,18 @@ fn open(work: &mut Work, image: &[u32], code: u32, bytes: &[u8]) -> Result<(), R
     work.open_request(image, &request)
 }
 
-/// A stash of 48 bytes 7, with its checksum.
-fn stash() -> Vec<u8> {
-    sealed(code::STASH_MEASUREMENT, &[7; 56])
+/// A stash of type "HOUR", a digest of 48 bytes 0x66 and that svn, with its checksum.
+fn stash(svn: u32) -> Vec<u8> {
+    let arguments = [b"HOUR", &[0x66; 48][..], &svn.to_le_bytes()].concat();
+    sealed(code::STASH_MEASUREMENT, &arguments)
+}
+
+fn open_svn(work: &mut Work, image: &[u32], svn: u32) -> Result<(), Refusal> {
+    open(work, image, code::STASH_MEASUREMENT, &stash(svn))
 }
 
 fn open_stash(work: &mut Work, image: &[u32]) -> Result<(), Refusal> {
-    open(work, image, code::STASH_MEASUREMENT, &stash())
+    open_svn(work, image, 0x0403_0201)
 }
 
 fn open_disable(work: &mut Work, image: &[u32]) -> Result<(), Refusal> {
@@ -88,7 +111,7 @@ fn switched_off() -> Vec<u32> {
     let mut image = fresh();
     let mut work = Work::new();
     assert_eq!(open_disable(&mut work, &image), Ok(()));
-    assert_eq!(run(&mut work, &mut image, usize::MAX), 15);
+    assert_eq!(run(&mut work, &mut image, usize::MAX), DISABLING);
     image
 }
 
@@ -128,7 +151,7 @@ fn every_cut(
         assert_eq!(outcome, Ok(expected), "cut {cut}");
         assert_eq!(
             run(&mut work, &mut image, usize::MAX),
-            if on { 62 } else { 15 }
+            if on { UPDATE } else { DISABLING }
         );
         assert_eq!(image[1], u32::from(on), "cut {cut}");
         assert_eq!(image[4..16].iter().all(|&word| word == 0), !on, "cut {cut}");
@@ -140,13 +163,13 @@ fn every_cut(
 
 #[test]
 fn every_cut_of_a_stash() {
-    every_cut(open_stash, 53, 12, 434);
+    every_cut(open_stash, STASH, 12, svn_at(1));
 }
 
 #[test]
 fn every_cut_of_an_extension() {
     let open = |work: &mut Work, image: &[u32]| open_extension(work, image, 17, 0x66);
-    every_cut(open, 14, 8, register(17));
+    every_cut(open, EXTENSION, 8, register(17));
 }
 
 #[test]
@@ -181,7 +204,7 @@ fn a_refusal_leaves_the_work() {
     assert_eq!(work.store(&mut image[1..]), Err(Refusal::WrongImage));
     assert_eq!(work, before);
     assert_eq!(image, kept);
-    assert_eq!(run(&mut work, &mut image, usize::MAX), 33);
+    assert_eq!(run(&mut work, &mut image, usize::MAX), STASH - 20);
 }
 
 /// An input of 0, 47 or 49 bytes is refused, whatever the boot would come to.
@@ -230,7 +253,7 @@ fn a_digest_may_have_any_content() {
         };
         let update = work.open_update_boot(&image, &inputs, true);
         assert_eq!(update, Ok(Outcome::Updated));
-        assert_eq!(run(&mut work, &mut image, usize::MAX), 62);
+        assert_eq!(run(&mut work, &mut image, usize::MAX), UPDATE);
         assert_eq!(work.open_cold_boot(&image, &inputs), Ok(Outcome::Cold));
     }
 }
@@ -290,7 +313,7 @@ fn refusals_of_requests() {
     let image = fresh();
     let mut work = Work::new();
     let mut ask = |code, bytes: &[u8]| open(&mut work, &image, code, bytes);
-    let mut bad = stash();
+    let mut bad = stash(0x0403_0201);
     bad[30] ^= 1;
     assert_eq!(ask(0, &[]), Err(Refusal::UnknownCode));
     assert_eq!(ask(code::STASH_MEASUREMENT, &[]), Err(Refusal::WrongLength));
@@ -327,7 +350,7 @@ fn an_extension_stores_its_register_alone() {
             }
             let mut work = Work::new();
             assert_eq!(open_extension(&mut work, &image, number, byte), Ok(()));
-            assert_eq!(run(&mut work, &mut image, usize::MAX), 14);
+            assert_eq!(run(&mut work, &mut image, usize::MAX), EXTENSION);
             assert_eq!(image, expected, "PCR{number}");
             let mut answer = [0xEE; 9];
             assert_eq!(work.answer(&mut answer[..7]), Err(Refusal::ShortBuffer));
@@ -337,25 +360,26 @@ fn an_extension_stores_its_register_alone() {
     }
 }
 
-/// PCR4 extended by 48 bytes 0x66, from GNU sha384sum:
+/// Zero extended by 48 bytes 0x66, from GNU sha384sum:
 ///
 /// ```text
 /// x48() { printf "%.0s$1" $(seq 48); }
 /// printf %b "$(sed 's/../\\x&/g' <<<"$(x48 00)$(x48 66)")" | sha384sum
 /// ```
+const EXTENDED: &str = "698aa835f229bcdf213933d7c8e1c2fa58c51fd9aa0680eb\
+                        63bc13d039dee5e8d41f7fd033da6f8079cc1c9c5da2c49b";
+
 #[test]
 fn a_register_is_kept_by_an_update_and_zero_after_a_cold_boot() {
-    let extended = "698aa835f229bcdf213933d7c8e1c2fa58c51fd9aa0680eb\
-                    63bc13d039dee5e8d41f7fd033da6f8079cc1c9c5da2c49b";
     let mut image = fresh();
     let mut work = Work::new();
     assert_eq!(open_extension(&mut work, &image, 4, 0x66), Ok(()));
     run(&mut work, &mut image, usize::MAX);
-    assert_eq!(digest_at(&image, register(4)), extended);
+    assert_eq!(digest_at(&image, register(4)), EXTENDED);
     let update = work.open_update_boot(&image, &INPUTS, true);
     assert_eq!(update, Ok(Outcome::Updated));
     run(&mut work, &mut image, usize::MAX);
-    assert_eq!(digest_at(&image, register(4)), extended);
+    assert_eq!(digest_at(&image, register(4)), EXTENDED);
     assert_eq!(work.open_cold_boot(&image, &INPUTS), Ok(Outcome::Cold));
     run(&mut work, &mut image, usize::MAX);
     assert_eq!(bytes_at(&image, register(4)), [0; 48]);
@@ -397,10 +421,142 @@ fn refusals_of_an_extension() {
 fn an_extension_on_nodes_that_are_not_well_formed() {
     let mut image = fresh();
     let mut work = Work::new();
-    image[400..].fill(u32::MAX);
+    image[NODES_AT..].fill(u32::MAX);
     assert_eq!(open_stash(&mut work, &image), Err(Refusal::NotWellFormed));
     assert_eq!(open_extension(&mut work, &image, 4, 0x66), Ok(()));
-    assert_eq!(run(&mut work, &mut image, usize::MAX), 14);
+    assert_eq!(run(&mut work, &mut image, usize::MAX), EXTENSION);
+}
+
+/// Makes all stores of a stash with that svn.
+fn add(image: &mut [u32], svn: u32) {
+    let mut work = Work::new();
+    assert_eq!(open_svn(&mut work, image, svn), Ok(()));
+    assert_eq!(run(&mut work, image, usize::MAX), STASH);
+}
+
+/// Opens an update boot that counts, and makes all its stores.
+fn update(image: &mut [u32]) {
+    let mut work = Work::new();
+    let outcome = work.open_update_boot(image, &INPUTS, true);
+    assert_eq!(outcome, Ok(Outcome::Updated));
+    assert_eq!(run(&mut work, image, usize::MAX), UPDATE);
+}
+
+/// Every word of a new node, with another number in each field of the request.
+#[test]
+fn a_stash_keeps_its_svn() {
+    let mut image = fresh();
+    assert_eq!(image[svn_at(0)], 0, "the root's after a cold boot");
+    let mut work = Work::new();
+    let request = Request {
+        code: code::STASH_MEASUREMENT,
+        bytes: &stash(0x0403_0201),
+        caller: 0x0D0C_0B0A,
+        ..Request::default()
+    };
+    assert_eq!(work.open_request(&image, &request), Ok(()));
+    assert_eq!(run(&mut work, &mut image, usize::MAX), STASH);
+    let mut node_1 = [0; NODE_WORDS];
+    node_1[0] = 1;
+    node_1[NODE_CURRENT..NODE_CURRENT + 12].fill(0x6666_6666);
+    node_1[20..32].copy_from_slice(&image[node(1) + 20..node(1) + 32]);
+    node_1[NODE_TYPE] = u32::from_le_bytes(*b"HOUR");
+    node_1[NODE_LOCALITY] = 0x0D0C_0B0A;
+    node_1[NODE_SVN] = 0x0403_0201;
+    assert_eq!(image[node(1)..node(2)], node_1);
+    assert_eq!(digest_at(&image, node(1) + 20), EXTENDED, "cumulative");
+    assert_eq!(image[svn_at(0)], 0, "the root's");
+    assert!(image[node(2)..].iter().all(|&word| word == 0));
+}
+
+/// A list of every node, each with an svn of its own.
+#[test]
+fn every_node_has_its_svn() {
+    let svn = |index: usize| 0x0102_0304_u32.wrapping_mul(index as u32);
+    let mut image = fresh();
+    for index in 1..NODES {
+        add(&mut image, svn(index));
+    }
+    update(&mut image);
+    let nodes = image[NODES_AT..].chunks_exact(NODE_WORDS);
+    let found: Vec<u32> = nodes.map(|node| node[NODE_SVN]).collect();
+    assert_eq!(found, (0..NODES).map(svn).collect::<Vec<u32>>());
+}
+
+#[test]
+fn a_free_node_is_zero_in_its_svn() {
+    for index in 1..NODES {
+        for svn in [1, 0x0100_0000, u32::MAX] {
+            let mut image = fresh();
+            let mut work = Work::new();
+            image[svn_at(index)] = svn;
+            assert_eq!(open_stash(&mut work, &image), Err(Refusal::NotWellFormed));
+            let kept = work.open_update_boot(&image, &INPUTS, false);
+            assert_eq!(kept, Ok(Outcome::Disabled), "node {index}");
+            let outcome = work.open_update_boot(&image, &INPUTS, true);
+            assert_eq!(outcome, Ok(Outcome::Disabled), "node {index}");
+            assert_eq!(run(&mut work, &mut image, usize::MAX), DISABLING);
+            assert_eq!(image[1], 0, "attestation");
+        }
+    }
+}
+
+/// An update leaves every node's svn, the root's too; a cold boot sets the root's to 0.
+#[test]
+fn a_used_node_may_have_any_svn() {
+    for svn in [0, 1, 0x4D4A_5452, 0x8000_0000, u32::MAX] {
+        let mut image = fresh();
+        add(&mut image, 5);
+        image[svn_at(0)] = svn;
+        image[svn_at(1)] = !svn;
+        update(&mut image);
+        add(&mut image, 6);
+        let found = [0, 1, 2].map(|index| image[svn_at(index)]);
+        assert_eq!(found, [svn, !svn, 6]);
+        let mut work = Work::new();
+        assert_eq!(work.open_cold_boot(&image, &INPUTS), Ok(Outcome::Cold));
+        run(&mut work, &mut image, usize::MAX);
+        assert_eq!(image[svn_at(0)], 0);
+    }
+}
+
+/// Card 12: the svn counts with the last store, and not before.
+#[test]
+fn a_stash_cut_at_its_last_stores() {
+    for (cut, outcome) in [(53, Outcome::Disabled), (54, Outcome::Updated)] {
+        let mut image = fresh();
+        let mut work = Work::new();
+        assert_eq!(open_stash(&mut work, &image), Ok(()));
+        assert_eq!(run(&mut work, &mut image, cut), cut);
+        let update = work.open_update_boot(&image, &INPUTS, true);
+        assert_eq!(update, Ok(outcome), "cut {cut}");
+        run(&mut work, &mut image, usize::MAX);
+        assert_eq!(image[1], u32::from(outcome == Outcome::Updated));
+        assert_eq!(image[svn_at(1)], 0x0403_0201);
+    }
+}
+
+/// An image from before the nodes had an svn, and those of one word less and one more.
+#[test]
+fn images_of_other_lengths() {
+    for length in [1216, IMAGE_WORDS - 1, IMAGE_WORDS + 1] {
+        let mut work = Work::new();
+        open_stash(&mut work, &fresh()).expect("accepted");
+        let before = work.clone();
+        let mut image = fresh();
+        image.resize(length, 0);
+        let kept = image.clone();
+        let cold = work.open_cold_boot(&image, &INPUTS);
+        assert_eq!(cold, Err(Refusal::WrongImage), "{length} words");
+        let update = work.open_update_boot(&image, &INPUTS, true);
+        assert_eq!(update, Err(Refusal::WrongImage), "{length} words");
+        let request = open_disable(&mut work, &image);
+        assert_eq!(request, Err(Refusal::WrongImage), "{length} words");
+        let store = work.store(&mut image);
+        assert_eq!(store, Err(Refusal::WrongImage), "{length} words");
+        assert_eq!(work, before);
+        assert_eq!(image, kept);
+    }
 }
 
 #[test]

@@ -15,7 +15,7 @@ fn macros(section: &str) -> Vec<(&'static str, u64)> {
     lines.collect()
 }
 
-/// `1216`, `UINT32_C(1)` or `UINT32_C(0x4243484B)`.
+/// `1240`, `UINT32_C(1)` or `UINT32_C(0x4243484B)`.
 fn number(text: &str) -> u64 {
     let digits = match text.split_once('(') {
         Some((_, inner)) => inner.trim_end_matches(')'),
@@ -81,4 +81,19 @@ fn every_size_is_the_headers() {
         ("SHA384_TOTAL_LONGEST", waggleloft::SHA384_TOTAL_LONGEST),
     ];
     assert_eq!(macros("Sizes"), sizes);
+}
+
+#[test]
+fn every_place_of_the_nodes_is_the_headers() {
+    let places = [
+        ("NODES", waggleloft::NODES),
+        ("NODES_AT", waggleloft::NODES_AT),
+        ("NODE_WORDS", waggleloft::NODE_WORDS),
+        ("NODE_CURRENT", waggleloft::NODE_CURRENT),
+        ("NODE_TYPE", waggleloft::NODE_TYPE),
+        ("NODE_LOCALITY", waggleloft::NODE_LOCALITY),
+        ("NODE_SVN", waggleloft::NODE_SVN),
+    ];
+    let places = places.map(|(name, place)| (name, place as u64));
+    assert_eq!(macros("The list of measurements"), places);
 }

@@ -8,6 +8,7 @@
 use host::driver::{Replies, Script};
 use reference::boots::Inputs;
 use reference::layout::{extended_by, words_of, ZERO};
+use waggleloft::{NODES_AT, NODE_SVN, NODE_WORDS};
 
 const STASH: u32 = 0x4D45_4153;
 const DISABLE: u32 = 0x4453_424C;
@@ -15,9 +16,6 @@ const EXTEND: u32 = 0x5043_5245;
 
 /// A number that is more than the stores of any work.
 const ALL: u32 = 10_000;
-
-const FIRST_NODE: usize = 400;
-const NODE_WORDS: usize = 34;
 
 /// PCR4, the register that is extended, and its first word.
 const REGISTER: u32 = 4;
@@ -57,10 +55,11 @@ struct Kind {
     lost: &'static str,
 }
 
+/// A measurement whose svn is that byte.
 fn stash_arguments(byte: u8) -> Vec<u8> {
     let mut arguments = vec![0; 4];
     arguments.extend([byte; 48]);
-    arguments.extend([0; 4]);
+    arguments.extend(u32::from(byte).to_le_bytes());
     arguments
 }
 
@@ -83,7 +82,7 @@ fn kinds() -> Vec<Kind> {
             skip: |_| (),
             open: |s| s.request(STASH, &stash_arguments(0x44)),
             left: |r| r.request(),
-            shown: |with, without| with.nodes == without.nodes + 1,
+            shown: |with, _| with.svns == [0, 0x33, 0x44],
             counted: "the new measurement is in the list",
             lost: "the new measurement is not in the list; all earlier ones are",
         },
@@ -139,7 +138,7 @@ fn kinds() -> Vec<Kind> {
             skip: |_| (),
             open: |s| s.cold_boot(BOOTED_ANEW_WITH),
             left: |r| r.boot().1,
-            shown: |with, without| with.nodes == 1 && with.root != without.root,
+            shown: |with, without| with.svns == [0] && with.root != without.root,
             counted: "the old list is erased; a new one has begun, with one entry",
             lost: "the old list stands",
         },
@@ -153,7 +152,8 @@ struct Left {
     outcome: u8,
     on: bool,
     secret_zero: bool,
-    nodes: usize,
+    /// The svn of each measurement in the list.
+    svns: Vec<u32>,
     root: Vec<u32>,
     register: Vec<u32>,
 }
@@ -210,15 +210,14 @@ fn left(replies: &mut Replies) -> Left {
     let (outcome, _) = replies.boot();
     replies.stores();
     let image = replies.image();
+    let nodes = image[NODES_AT..].chunks_exact(NODE_WORDS);
+    let used = nodes.filter(|node| node[0] % 65_536 == 1);
     Left {
         outcome,
         on: image[1] == 1,
         secret_zero: image[4..16].iter().all(|&word| word == 0),
-        nodes: (FIRST_NODE..image.len())
-            .step_by(NODE_WORDS)
-            .filter(|&at| image[at] % 65_536 == 1)
-            .count(),
-        root: image[FIRST_NODE..FIRST_NODE + NODE_WORDS].to_vec(),
+        svns: used.map(|node| node[NODE_SVN]).collect(),
+        root: image[NODES_AT..NODES_AT + NODE_WORDS].to_vec(),
         register: image[REGISTER_AT..REGISTER_AT + 12].to_vec(),
     }
 }
