@@ -1,27 +1,30 @@
 -- Demand 3 is not empty: on any image, lists of calls whose last one ends an update boot, one whole, one after a torn work; and
--- one with an extension. Assumes nothing.
-use mathlib.Core.Path.{_≡_, refl, _∙_}
-use Prim.Native.Nat.{ℕ, _-_, _*_}
+-- one with an extension, one with a stash. Assumes nothing.
+use mathlib.Core.Path.{_≡_, refl, sym, ap, _∙_}
+use Prim.Native.Nat.{ℕ, _+_, _-_, _*_}
 use mathlib.Core.Bool.{Bool, true, false, _&&_}
 use mathlib.Core.List.{List, [], _∷_, _++_, map}
 use mathlib.Core.Option.{Option, none, some}
 use native.Mathlib.Omega.{arith}
 use lib.Dec.{eqb}
 use lib.ListN.{length, getD, set, take, drop, replicate}
-use Rattle.layout.specs.Sizes.{imageWords, attestationAt, registersAt, registerCount, registerWords, currentRegister, journeyRegister, extendFirst, extendable}
-use Rattle.layout.specs.Words.{bytes4, words48, zeros, flat}
-use Rattle.layout.specs.Below.{allBelow}
+use lib.Seq.{getD-drop}
+use Rattle.layout.specs.Sizes.{imageWords, attestationAt, registersAt, registerCount, registerWords, currentRegister, journeyRegister, extendFirst, extendable, nodesAt, nodeWords, nodeAt, svnAt}
+use Rattle.layout.specs.Words.{bytes4, words48, wordsAt, tab, zeros, flat}
+use Rattle.layout.specs.Below.{allBelow, countBelow, firstFrom}
 use Rattle.message.specs.Checksum.{checksumOf}
 use Rattle.sha384.specs.Entries.{extended}
+use Rattle.tree.specs.Tree.{sameHandle, hasHandle, isRoot, rootOk, childOk, handleOk, placeOk, leads, leadsIfUsed, wellFormed, nodeWith, lowestFree}
+use Rattle.nodes.specs.Record.{nodeRow}
 use Rattle.table.specs.Table.{numberOf}
 use Rattle.work.specs.Entries.{leftOf}
-use Rattle.table.specs.declared.Kind.the-variants.{Disabling, Update, Extension}
+use Rattle.table.specs.declared.Kind.the-variants.{Disabling, Stash, Update, Extension}
 use Rattle.opening.specs.Tasks.{requestOf, BootInputs, bootOf, Task}
-use Rattle.opening.specs.Rules.{wrongChecksum, extendCode, inputsOk}
+use Rattle.opening.specs.Rules.{wrongChecksum, extendCode, stashCode, inputsOk}
 use Rattle.opening.specs.Values.{extendedByBoot}
 use Rattle.opening.specs.Openings.{openColdBoot, bootNumber}
 use Rattle.history.specs.Calls.{Call, request, updateBoot, store, powerCut, Hand, Machine, Step, step, run}
-use Rattle.history.specs.Ledger.{Job, Ledger, nextChain, stateOf, viewOf, letGo, ledgerStep, firstLedger}
+use Rattle.history.specs.Ledger.{Job, Ledger, nextChain, stateOf, chainOf, nodeRows, viewOf, letGo, ledgerStep, firstLedger}
 use Rattle.history.specs.Demand.{Shut, wasAccepted, bootEnded, endsBoot, afterColdBoot}
 use Rattle.history.proofs.Ground.{isBoot}
 use Rattle.history.proofs.Sim.{Inv, empty, done, going, Together, carried-left, sim, sim-run}
@@ -76,6 +79,18 @@ pub extension-calls : List Call
 extension-calls =
     request (requestOf extendCode (bytes4 (checksumOf extendCode arguments) ++ arguments) 0 [] false) ∷ replicate (numberOf (Extension extendFirst)) store
 
+-- a measurement of the svn 0x04030201, stashed to its end
+pub svn : ℕ
+svn = 0x04030201
+
+measured-arguments : List ℕ
+measured-arguments = bytes4 0x52554F48 ++ (digest ++ bytes4 svn)
+
+pub stash-calls : List Call
+stash-calls =
+    request (requestOf stashCode (bytes4 (checksumOf stashCode measured-arguments) ++ measured-arguments) 5 [] false)
+    ∷ replicate (numberOf (Stash (record { node = 1; holder = 0 }))) store
+
 -- the registers that a cold boot leaves
 pub coldRegisters : List (List ℕ)
 coldRegisters =
@@ -117,3 +132,17 @@ module _ (before : List ℕ) (e : length before ≡ imageWords) where
       ≡ flat (map words48 (set coldRegisters extendFirst (extended (zeros 48) digest)))
   unfolding ledgerStep letGo viewOf stateOf nextChain wrongChecksum checksumOf extendable inputsOk allBelow inputs digest arguments extension-calls coldRegisters numberOf
   extension-counts = demand3 before inputs (cold-opens before e) extension-calls .counted refl refl .registers
+
+  -- and that a stash's svn is word 34 of its node, and the root's is 0
+  pub svn-counts : (getD (run step (afterColdBoot before inputs) stash-calls .image) (nodeAt 1 + svnAt) 0 ≡ svn)
+      × (getD (run step (afterColdBoot before inputs) stash-calls .image) (nodeAt 0 + svnAt) 0 ≡ 0)
+  unfolding ledgerStep letGo viewOf stateOf nextChain wrongChecksum checksumOf inputsOk inputs digest measured-arguments stash-calls svn numberOf nodeRow wordsAt tab zeros allBelow countBelow firstFrom wellFormed placeOk isRoot rootOk childOk handleOk sameHandle hasHandle leads leadsIfUsed nodeWith lowestFree
+  svn-counts = (at (nodeWords + svnAt), at svnAt)
+    where
+      image : List ℕ
+      image = run step (afterColdBoot before inputs) stash-calls .image
+
+      at : (k : ℕ) → getD image (nodesAt + k) 0 ≡ getD (nodeRows (chainOf (run ledgerStep (firstLedger inputs) stash-calls))) k 0
+      at k =
+          sym (getD-drop nodesAt image k 0)
+          ∙ ap (λ (l : List ℕ). getD l k 0) (demand3 before inputs (cold-opens before e) stash-calls .counted refl refl .nodes)
