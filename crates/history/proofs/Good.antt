@@ -21,12 +21,12 @@ use Rattle.layout.proofs.Tab.{length-zeros}
 use Rattle.sha384.proofs.Sizes.{Bytes, Measure, measure-extended, measure-each}
 use Rattle.tree.specs.Nodes.{word, treeIn, cumulativeIn}
 use Rattle.tree.specs.Tree.{Place, Tree, defaultWords, sameHandle, isRoot, rootOk, wellFormed, rootIn, nodeWith, lowestFree}
-use Rattle.nodes.specs.Record.{Node, defaultHandle, retiredHandle, handleRow, withHandle, placeOf, treeOf}
+use Rattle.nodes.specs.Record.{Node, defaultHandle, retiredHandle, handleRow, newNode, withHandle, placeOf, treeOf}
 use Rattle.tree.proofs.Ways.{leads-root}
 use Rattle.tree.proofs.Rooted.{placed, placed-same, placed-other, root-used}
 use Rattle.nodes.proofs.Rows.{default-row, retired-row}
 use Rattle.tree.proofs.WellFormed.{Formed, same-refl, rehandled, stashed, formed-true, formed-stashed, top-found, holder-found, free-there}
-use Rattle.opening.specs.Values.{childNode, rootNode}
+use Rattle.opening.specs.Values.{rootNode}
 use Rattle.opening.specs.Tasks.{BootInputs, Measurement, stash, update, coldBoot}
 use Rattle.opening.specs.Openings.{rootMatches}
 use Rattle.history.specs.Ledger.{Chain, Contents, treeAt, changed, renewed, extendedAt, nextChain, imageOf}
@@ -263,8 +263,8 @@ good-register x i v m apart g =
 
 -- ---- a stash
 
--- its nodes
-module _ (x : Chain) (m : Measurement) (g : Good x) (room : lowestFree nodeCount (treeAt x) < nodeCount) where
+-- its nodes, whatever is measured: type, locality and svn are free
+module _ (x : Chain) (current cumulative : List ℕ) (type locality svn : ℕ) (measure : Measure cumulative) (g : Good x) (room : lowestFree nodeCount (treeAt x) < nodeCount) where
   h : ℕ
   h = nodeWith nodeCount (treeAt x) defaultWords
 
@@ -272,7 +272,7 @@ module _ (x : Chain) (m : Measurement) (g : Good x) (room : lowestFree nodeCount
   k = lowestFree nodeCount (treeAt x)
 
   child : Node
-  child = childNode h m
+  child = newNode h 0 current cumulative type locality svn
 
   old : Option Node
   old = changed (withHandle retiredHandle) (getD (x .nodes) h none)
@@ -331,7 +331,7 @@ module _ (x : Chain) (m : Measurement) (g : Good x) (room : lowestFree nodeCount
         journey = current-kept ∙ g .journey;
         cumulatives =
             cumulatives-set (set (x .nodes) k (some child)) h old
-            (cumulatives-set (x .nodes) k (some child) (g .cumulatives) (measure-extended (zeros 48) (m .digest)))
+            (cumulatives-set (x .nodes) k (some child) (g .cumulatives) measure)
             (measure-changed (withHandle retiredHandle) (getD (x .nodes) h none) (λ n e. g .cumulatives h n e));
       }
 
@@ -339,7 +339,7 @@ module _ (x : Chain) (m : Measurement) (g : Good x) (room : lowestFree nodeCount
 pub good-stash : (x : Chain) (m : Measurement) → Good x → lowestFree nodeCount (treeAt x) < nodeCount → Good (nextChain x (stash m))
 unfolding nextChain h k child old
 good-stash x m g room =
-    good-child (record { registers = extendedAt (x .registers) stashRegister (m .digest); nodes = x .nodes }) m
+    good-child (record { registers = extendedAt (x .registers) stashRegister (m .digest); nodes = x .nodes }) _ _ _ _ _ (measure-extended _ _)
     (good-register x stashRegister _ (measure-extended _ _) (λ (e : _≡_ {A = ℕ} journeyRegister stashRegister). omega arith) g) room
 
 -- ---- an update boot
