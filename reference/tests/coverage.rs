@@ -341,10 +341,11 @@ impl Tried {
 type Moved = (u8, u64, &'static str);
 
 fn moved(work: &Work, field: u8, value: u64) -> Option<Moved> {
+    const LAST: u64 = EXTENSION_STORES as u64;
     let place = match work.position {
         0 => "before",
-        14 => "after",
-        1..14 => "between",
+        LAST => "after",
+        1..LAST => "between",
         _ => return None,
     };
     (work.kind.sort() == Sort::Extension).then_some((field, value, place))
