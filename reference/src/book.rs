@@ -413,6 +413,9 @@ impl Book {
 
     /// Attestation, secret, registers and nodes are the book's.
     fn is_shown(&self, image: &[u32]) -> Result<(), String> {
+        claim(image.len() == IMAGE_WORDS, || {
+            format!("a list on an image of {} words", image.len())
+        })?;
         let on = !self.is_off();
         claim((image[ATTESTATION] == ON) == on, || {
             format!(
