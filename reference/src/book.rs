@@ -44,20 +44,65 @@ impl Event {
 struct Node {
     /// None for the root.
     parent: Option<usize>,
+    tag: u32,
     holds: bool,
     current: Digest,
     cumulative: Digest,
     kind: u32,
     locality: u32,
+    svn: u32,
 }
 
-/// A register's value after a boot, from the one before.
-type Measure = fn(&Digest, &Boot) -> Digest;
+/// How the history is read, each rule by itself, so that a book can be wrong in
+/// just one.
+#[derive(Clone, Copy)]
+struct Reading {
+    /// A register's value after a boot, from the one before.
+    measure: fn(&Digest, &Boot) -> Digest,
+    /// A cold boot's root, from its measurement.
+    root: fn(&Digest) -> Node,
+    /// A stash's node below the holder.
+    stashed: fn(usize, &Stash) -> Node,
+}
+
+impl Reading {
+    const PAPER: Reading = Reading {
+        measure: runtime_then_manifest,
+        root,
+        stashed,
+    };
+}
 
 /// The runtime digest first, then the manifest digest.
 fn runtime_then_manifest(before: &Digest, boot: &Boot) -> Digest {
     let with_runtime = extended(before, &boot.runtime);
     extended(&with_runtime, &boot.manifest)
+}
+
+fn root(journey: &Digest) -> Node {
+    Node {
+        parent: None,
+        tag: 0,
+        holds: true,
+        current: *journey,
+        cumulative: extended(&ZERO, journey),
+        kind: RTJM,
+        locality: 0,
+        svn: 0,
+    }
+}
+
+fn stashed(holder: usize, stash: &Stash) -> Node {
+    Node {
+        parent: Some(holder),
+        tag: 0,
+        holds: true,
+        current: stash.digest,
+        cumulative: extended(&ZERO, &stash.digest),
+        kind: stash.kind,
+        locality: stash.caller,
+        svn: stash.svn,
+    }
 }
 
 /// Registers and nodes.
@@ -75,26 +120,20 @@ impl State {
         }
     }
 
-    fn replay(history: &[Event], measure: Measure) -> State {
-        let next = |state: State, event: &Event| state.after(event, measure);
+    fn replay(history: &[Event], reading: Reading) -> State {
+        let next = |state: State, event: &Event| state.after(event, reading);
         history.iter().fold(State::empty(), next)
     }
 
-    fn after(mut self, event: &Event, measure: Measure) -> State {
+    fn after(mut self, event: &Event, reading: Reading) -> State {
+        let measure = reading.measure;
         match event {
             Event::Cold(boot) => {
                 let journey = measure(&ZERO, boot);
                 let mut state = State::empty();
                 state.registers[CURRENT] = journey;
                 state.registers[JOURNEY] = journey;
-                state.nodes[0] = Some(Node {
-                    parent: None,
-                    holds: true,
-                    current: journey,
-                    cumulative: extended(&ZERO, &journey),
-                    kind: RTJM,
-                    locality: 0,
-                });
+                state.nodes[0] = Some((reading.root)(&journey));
                 return state;
             }
             Event::Update(boot) => {
@@ -114,14 +153,7 @@ impl State {
                 let free = self.nodes.iter().position(Option::is_none);
                 let free = free.expect("a counted stash has a free node");
                 self.nodes[holder].as_mut().expect("it holds").holds = false;
-                self.nodes[free] = Some(Node {
-                    parent: Some(holder),
-                    holds: true,
-                    current: stash.digest,
-                    cumulative: extended(&ZERO, &stash.digest),
-                    kind: stash.kind,
-                    locality: stash.caller,
-                });
+                self.nodes[free] = Some((reading.stashed)(holder, stash));
             }
             Event::Extension(extension) => {
                 let register = &mut self.registers[extension.register as usize];
@@ -145,13 +177,12 @@ impl State {
                 true => DEFAULT_HANDLE,
                 false => RETIRED_HANDLE,
             };
-            let tag = 0;
-            words.extend([parent << 16 | USED, tag]);
+            words.extend([parent << 16 | USED, node.tag]);
             words.extend(handle);
             words.push(if node.parent.is_none() { INTERNAL } else { 0 });
             words.extend(words_of(&node.current));
             words.extend(words_of(&node.cumulative));
-            words.extend([node.kind, node.locality]);
+            words.extend([node.kind, node.locality, node.svn]);
         }
         words
     }
@@ -198,8 +229,7 @@ pub struct Book {
     history: Vec<Event>,
     /// The fold of the history so far.
     state: State,
-    /// What a boot in the history does to a register.
-    measure: Measure,
+    reading: Reading,
     in_hand: Option<Hand>,
     torn: bool,
     unfinished: bool,
@@ -211,15 +241,15 @@ impl Book {
     /// The book right after all stores of a cold boot. That work is still in
     /// hand, finished.
     pub fn after_cold_boot(boot: Boot) -> Book {
-        Book::measuring(boot, runtime_then_manifest)
+        Book::read_so(boot, Reading::PAPER)
     }
 
-    fn measuring(boot: Boot, measure: Measure) -> Book {
+    fn read_so(boot: Boot, reading: Reading) -> Book {
         let event = Event::Cold(boot);
         Book {
-            state: State::empty().after(&event, measure),
+            state: State::empty().after(&event, reading),
             history: vec![event.clone()],
-            measure,
+            reading,
             in_hand: Some(Hand {
                 made: event.number(),
                 event,
@@ -341,13 +371,13 @@ impl Book {
 
     fn counts(&mut self, event: Event) {
         let before = std::mem::replace(&mut self.state, State::empty());
-        self.state = before.after(&event, self.measure);
+        self.state = before.after(&event, self.reading);
         self.history.push(event);
     }
 
     /// Demand 3 at a look, against the image.
     pub fn look(&mut self, _look: Look, image: &[u32]) -> Result<(), String> {
-        if State::replay(&self.history, self.measure) != self.state {
+        if State::replay(&self.history, self.reading) != self.state {
             return Err("the book's state is not its history's".into());
         }
         if self.torn {
@@ -383,6 +413,9 @@ impl Book {
 
     /// Attestation, secret, registers and nodes are the book's.
     fn is_shown(&self, image: &[u32]) -> Result<(), String> {
+        claim(image.len() == IMAGE_WORDS, || {
+            format!("a list on an image of {} words", image.len())
+        })?;
         let on = !self.is_off();
         claim((image[ATTESTATION] == ON) == on, || {
             format!(

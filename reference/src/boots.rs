@@ -143,7 +143,8 @@ pub trait Boots {
 }
 
 /// The image after a cold boot but for the mark: attestation on, both boot
-/// registers, and the root at node 0. Every other word is zero.
+/// registers, and the root at node 0. Every other word is zero, the root's svn
+/// among them.
 fn booted(measured: &Measured, secret: &Digest) -> Vec<u32> {
     let root = node(0);
     let mut image = vec![0; IMAGE_WORDS];

@@ -128,7 +128,7 @@ pub struct Options {
 }
 
 /// Inputs that have no seed: longer than what is used of one, operations of the
-/// greatest lengths, and every case of the running digest.
+/// greatest lengths, and those that go through every case.
 fn inputs_without_seed() -> Vec<Vec<u8>> {
     let mut inputs = fixed_inputs();
     // The last byte that is used is an operation; then one is cut by the end.

@@ -1,4 +1,4 @@
-//! Scripts by seed. Each mixes pieces of seven sorts and ends with the image.
+//! Scripts by seed. Each mixes pieces of eight sorts and ends with the image.
 
 mod broken;
 mod damage;
@@ -6,13 +6,15 @@ mod extensions;
 mod fixed;
 mod fixed_boots;
 mod fixed_extensions;
+mod fixed_svns;
 mod images;
 mod lists;
 mod requests;
 mod slices;
+mod svns;
 mod works;
 
-pub use fixed::fixed_inputs;
+pub use fixed::{extension_input, fixed_inputs, svn_inputs};
 pub use images::{odd_image_1, odd_image_2};
 pub use requests::program_input;
 pub use slices::cuts;
@@ -21,8 +23,11 @@ use crate::layout::*;
 use crate::random::Random;
 use crate::script::{encode, BootBytes, Op};
 
+/// The bytes of an image's words.
+const IMAGE_BYTES: usize = 4 * IMAGE_WORDS;
+
 /// A script grows no more once it has this many bytes.
-const ENOUGH: usize = 9_500;
+const ENOUGH: usize = 2 * IMAGE_BYTES;
 
 /// One operation in so many has one on the running digest before it.
 const RUNNING_BETWEEN: usize = 24;
@@ -53,20 +58,24 @@ pub fn script(seed: u64) -> Script {
         3 => maker.images(3),
         4 => maker.images(2),
         5 => maker.requests(),
-        6 => maker.works(12),
+        6 => {
+            maker.works(12);
+            maker.svns();
+        }
         _ => maker.cuts_in_turn(),
     }
     if seed % 64 == 63 {
         maker.long_slices();
     }
     while maker.size < ENOUGH && !maker.random.once_in(3) {
-        match maker.random.below(8) {
+        match maker.random.below(9) {
             0 | 1 => maker.lists(1),
             2 => maker.images(1),
             3 => maker.requests(),
             4 => maker.works(6),
             5 => maker.slices(6),
             6 => maker.extensions(),
+            7 => maker.svns(),
             _ => maker.long_list(),
         }
     }

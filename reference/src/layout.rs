@@ -17,7 +17,7 @@ pub const REGISTERS_AT: usize = SECRET + DIGEST_WORDS;
 pub const REGISTERS: usize = 32;
 pub const NODES_AT: usize = REGISTERS_AT + REGISTERS * DIGEST_WORDS;
 pub const NODES: usize = 24;
-pub const NODE_WORDS: usize = 34;
+pub const NODE_WORDS: usize = 35;
 pub const IMAGE_WORDS: usize = NODES_AT + NODES * NODE_WORDS;
 
 /// The most steps from a node to the root.
@@ -44,6 +44,7 @@ pub const NODE_CURRENT: usize = 8;
 pub const NODE_CUMULATIVE: usize = 20;
 pub const TYPE: usize = 32;
 pub const LOCALITY: usize = 33;
+pub const SVN: usize = 34;
 
 pub const USED: u32 = 1;
 pub const FREE: u32 = 0;
@@ -59,6 +60,9 @@ pub const DISABLING_STORES: usize = 2 + 1 + DIGEST_WORDS;
 pub const UPDATE_STORES: usize = 2 + 5 * DIGEST_WORDS;
 pub const COLD_STORES: usize = 2 + IMAGE_WORDS - 1;
 pub const EXTENSION_STORES: usize = 2 + DIGEST_WORDS;
+
+/// The stores that a stash makes before that of its node's svn.
+pub const BEFORE_SVN: usize = 1 + DIGEST_WORDS + SVN;
 
 /// The kinds of work, in the order of their numbers from 0 on.
 #[derive(Clone, Copy, Debug, PartialEq, Eq, PartialOrd, Ord)]

@@ -4,8 +4,8 @@
 //! crates. Tests run both and compare what they hand back.
 //!
 //! The reading of document 01 is `layout`, `memory`, `requests`, `boots`,
-//! `work`, `engine`, `mailbox` and `book`, with document 02's manifest digest and
-//! register extension in them; its running digest is `running` and
+//! `work`, `engine`, `mailbox` and `book`, with document 02's manifest digest,
+//! register extension and svn in them; its running digest is `running` and
 //! `book::slices`. Around it: `script` and `player` are the driver, `generate`
 //! makes scripts, `campaign` compares, and `wrong` and `book::wrong` hold what is
 //! wrong on purpose.

@@ -235,6 +235,7 @@ pub trait Requests {
         work.set_node(NODE_CUMULATIVE, &extended(&ZERO, &stash.digest));
         work.node[TYPE] = stash.kind;
         work.node[LOCALITY] = stash.caller;
+        work.node[SVN] = stash.svn;
         work
     }
 

@@ -318,7 +318,7 @@ mod tests {
                 table: vec![3; 300],
                 bytes: vec![4; 60],
             }),
-            Op::Store(1_217),
+            Op::Store(70_000),
             Op::Answer(300),
             Op::Left,
             Op::Cut,

@@ -75,11 +75,12 @@ fn image(words: &[u32]) -> String {
                 continue;
             }
             text += &format!(
-                "; node {index}: 0x{:08X} {} flags {:#x} type 0x{:08X}",
+                "; node {index}: 0x{:08X} {} flags {:#x} type 0x{:08X} svn {:#x}",
                 node[0],
                 handle_name(&node[HANDLE..][..HANDLE_WORDS]),
                 node[FLAGS],
-                node[TYPE]
+                node[TYPE],
+                node[SVN]
             );
         }
     }

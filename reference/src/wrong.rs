@@ -16,6 +16,7 @@ mod requests;
 mod running;
 mod shortcuts;
 mod stash;
+mod svn;
 mod works;
 
 pub use caught::{caught, Caught};
@@ -69,6 +70,7 @@ pub const GROUPS: &[Group] = &[
     group("The image", memory::ENGINES, ByScripts),
     group("Requests", requests::ENGINES, ByScripts),
     group("Stash", stash::ENGINES, ByScripts),
+    group("The svn", svn::ENGINES, ByScripts),
     group("Extension", extension::ENGINES, ByScripts),
     group("Boots", boots::ENGINES, ByScripts),
     group("The manifest digest", manifest::ENGINES, ByScripts),

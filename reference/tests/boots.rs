@@ -55,7 +55,8 @@ fn the_small_programs_boot_and_one_update() {
     let mut image = booted();
     assert_eq!(measurements(&image), [BOOTED, BOOTED, BOOTED, CUMULATIVE]);
     let (mut work, outcome) = ENGINE.open_update(&image, UPDATED_WITH, true).unwrap();
-    assert_eq!((outcome, ENGINE.left(&work)), (UPDATED, 62));
+    let left = UPDATE_STORES as u32;
+    assert_eq!((outcome, ENGINE.left(&work)), (UPDATED, left));
     while ENGINE.store(&mut work, &mut image) == 0 {}
     assert_eq!(
         measurements(&image),

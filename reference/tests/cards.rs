@@ -116,7 +116,9 @@ fn an_identity_keys_answer_sums_the_key_alone() {
 
 #[test]
 fn card_6_images_of_other_lengths() {
-    for length in [0, 1, IMAGE_WORDS - 1, IMAGE_WORDS + 1] {
+    let near = [1_239, 1_241];
+    assert_eq!(near, [IMAGE_WORDS - 1, IMAGE_WORDS + 1]);
+    for length in [0, 1].into_iter().chain(near) {
         let mut image = booted();
         let mut work = open(&image, DISABLE, &[]).unwrap();
         image.resize(length, 1);
@@ -150,6 +152,7 @@ fn card_7_and_the_booted() {
     assert_eq!(root[NODE_CURRENT..][..DIGEST_WORDS], *journey);
     assert_eq!(root[FLAGS], 0x8000_0000);
     assert_eq!(root[TYPE], RTJM);
+    assert_eq!(root[SVN], 0);
     assert!(image[node(1)..].iter().all(|&word| word == 0));
     assert!(well_formed(&image));
 }
@@ -226,8 +229,7 @@ const KNOWN: [&str; 3] = ["43577071", "3e0cbf3a", "fb84751f"];
 
 #[test]
 fn card_12_a_stash_that_is_cut() {
-    let all = STASH_STORES;
-    for (made, on) in [(0, true), (1, false), (all - 1, false), (all, true)] {
+    for (made, on) in [(0, true), (1, false), (53, false), (54, true)] {
         let mut image = booted();
         let mut work = stash(&image, 9).unwrap();
         store(&mut work, &mut image, made);
@@ -238,6 +240,7 @@ fn card_12_a_stash_that_is_cut() {
         assert_eq!(image[ATTESTATION] == ON, on);
         assert_eq!(image[SECRET] == 0, !on);
         assert_eq!(image[node(1)] == 1, made > 1 + DIGEST_WORDS);
+        assert_eq!(image[node(1) + SVN] == 0x0909_0909, made > BEFORE_SVN);
     }
 }
 
@@ -286,9 +289,11 @@ fn odd_image_2_is_well_formed_and_full() {
 #[test]
 fn damage_that_is_not_well_formed() {
     let (root, second) = (node(0), node(1));
-    let cases: [(usize, u32); 18] = [
+    let cases: [(usize, u32); 20] = [
         (second, 0x0005_0000),
         (IMAGE_WORDS - 1, 1),
+        (second + SVN, 1),
+        (second + SVN, 0x8000_0000),
         (second, 2),
         (root, 0xFFFF_0001),
         (root, 0x01FF_0001),
@@ -324,6 +329,7 @@ fn what_does_not_count() {
         (register(CURRENT), 0),
         (node(0) + TAG, 9),
         (node(0) + LOCALITY, 9),
+        (node(0) + SVN, 9),
     ] {
         let mut image = booted();
         image[word] = value;
@@ -459,46 +465,47 @@ fn every_store_goes_where_the_table_says() {
     let image = odd_image_1();
     let old = |word: usize| bytes_of(&image[word..]);
 
-    let stashed = words_of(&extended(&old(register(31)), &[3; 48]));
+    let stashed = words_of(&extended(&old(register(STASHED)), &[3; 48]));
     let cumulative = words_of(&extended(&ZERO, &[3; 48]));
-    let mut new = vec![0x0002_0001];
-    new.extend([0; 7]);
-    new.extend([0x0303_0303; 12]);
-    new.extend(cumulative);
-    new.extend([0x0303_0303, 0]);
+    let mut new = [0; NODE_WORDS];
+    new[0] = 0x0002_0001;
+    new[NODE_CURRENT..NODE_CUMULATIVE].fill(0x0303_0303);
+    new[NODE_CUMULATIVE..TYPE].copy_from_slice(&cumulative);
+    new[TYPE] = 0x0303_0303;
+    new[SVN] = 0x0303_0303;
     has_row(
         &stash(&image, 3).unwrap(),
         &[
-            (register(31), &stashed),
+            (register(STASHED), &stashed),
             (node(0), &new),
-            (node(2) + 2, &[u32::MAX; 5]),
+            (node(2) + HANDLE, &[u32::MAX; HANDLE_WORDS]),
         ],
     );
 
     has_row(
         &open(&image, DISABLE, &[]).unwrap(),
-        &[(1, &[0]), (4, &[0; 12])],
+        &[(ATTESTATION, &[0]), (SECRET, &[0; DIGEST_WORDS])],
     );
 
     let both = |from: &Digest| extended(&extended(from, &[0x44; 48]), &[0x55; 48]);
     let current = words_of(&both(&ZERO));
-    let journey = both(&old(register(3)));
-    let cumulative = words_of(&extended(&old(node(5) + 20), &journey));
+    let journey = both(&old(register(JOURNEY)));
+    let cumulative = words_of(&extended(&old(node(5) + NODE_CUMULATIVE), &journey));
     let journey = words_of(&journey);
     has_row(
         &update(&image, true).0,
         &[
-            (register(2), &current),
-            (register(3), &journey),
-            (4, &[0x6666_6666; 12]),
-            (node(5) + 8, &journey),
-            (node(5) + 20, &cumulative),
+            (register(CURRENT), &current),
+            (register(JOURNEY), &journey),
+            (SECRET, &[0x6666_6666; DIGEST_WORDS]),
+            (node(5) + NODE_CURRENT, &journey),
+            (node(5) + NODE_CUMULATIVE, &cumulative),
         ],
     );
 
     let (cold, outcome) = ENGINE.open_cold(&image, BOOTED_WITH).unwrap();
     assert_eq!(outcome, COLD);
-    has_row(&cold, &[(1, &booted()[1..])]);
+    has_row(&cold, &[(ATTESTATION, &booted()[ATTESTATION..])]);
 }
 
 #[test]

@@ -3,12 +3,12 @@
 use reference::book::wrong::BOOKS;
 use reference::boots::Inputs;
 use reference::engine::{Engine, Paper};
-use reference::generate::{cuts, fixed_inputs, program_input, script};
+use reference::generate::{cuts, extension_input, fixed_inputs, program_input, script, svn_inputs};
 use reference::layout::*;
 use reference::mailbox::mailbox;
 use reference::memory::Memory;
 use reference::player::{play, play_unwatched, Player, Seen, NONE_IN_HAND};
-use reference::requests::Request;
+use reference::requests::{Request, Stash};
 use reference::script::{BootBytes, Mail, Op, Reader, INPUT_BYTES, LENT_WORDS, LETTERS};
 use reference::sha384::{BLOCK_BYTES, DIGEST_BYTES};
 use reference::work::Work;
@@ -104,7 +104,8 @@ fn the_first_scripts_hold_every_length_and_letter() {
     let mut tails = BTreeSet::new();
     for seed in 0..SEEDS {
         let script = script(seed);
-        assert!(short_bytes(&script.ops) < 25_000, "seed {seed}");
+        let most = 15_000 + 8 * IMAGE_WORDS;
+        assert!(short_bytes(&script.ops) < most, "seed {seed}");
         assert!(script.bytes().len() < 400_000, "seed {seed}");
         assert_eq!(script.ops.last(), Some(&Op::Dump));
         for op in &script.ops {
@@ -341,10 +342,11 @@ impl Tried {
 type Moved = (u8, u64, &'static str);
 
 fn moved(work: &Work, field: u8, value: u64) -> Option<Moved> {
+    const LAST: u64 = EXTENSION_STORES as u64;
     let place = match work.position {
         0 => "before",
-        14 => "after",
-        1..14 => "between",
+        LAST => "after",
+        1..LAST => "between",
         _ => return None,
     };
     (work.kind.sort() == Sort::Extension).then_some((field, value, place))
@@ -424,24 +426,165 @@ fn the_first_scripts_hold_every_case_of_an_extension() {
 
 #[test]
 fn an_input_without_a_seed_holds_every_case_of_an_extension() {
-    let inputs = fixed_inputs();
-    let last = inputs.last().expect("inputs");
-    has_every_extension(&extensions([Reader::new(last).collect()].into_iter()));
+    let input = extension_input();
+    has_every_extension(&extensions([Reader::new(&input).collect()].into_iter()));
+}
+
+/// Whether some of the inputs tell each wrong engine of a group.
+fn tell_every_engine(inputs: &[Vec<u8>], title: &str) {
+    let right: Vec<Vec<u8>> = inputs.iter().map(|input| play(input)).collect();
+    let group = GROUPS.iter().find(|group| group.title == title);
+    for wrong in group.expect("the group").engines {
+        let mut both = inputs.iter().zip(&right);
+        let told = both.any(|(input, right)| play_unwatched(wrong.engine, input) != *right);
+        assert!(told, "{}", wrong.name);
+    }
 }
 
 #[test]
 fn an_input_without_a_seed_tells_every_wrong_extension() {
-    let inputs = fixed_inputs();
-    let last = inputs.last().expect("inputs");
-    let right = play(last);
-    let group = GROUPS.iter().find(|group| group.title == "Extension");
-    for wrong in group.expect("the group").engines {
-        assert!(
-            play_unwatched(wrong.engine, last) != right,
-            "{}",
-            wrong.name
-        );
+    tell_every_engine(&[extension_input()], "Extension");
+}
+
+/// A stash with what it meets, and its number.
+#[derive(Debug, PartialEq, Eq, PartialOrd, Ord)]
+struct Stashed {
+    svn: u32,
+    is_kind: bool,
+    is_caller: bool,
+    /// Of the node that has the default handle.
+    before: u32,
+    number: u32,
+}
+
+impl Stashed {
+    fn on(image: &[u32], mail: &Mail) -> Option<Stashed> {
+        let request = Request {
+            caller: mail.caller,
+            ..Request::plain(mail.code, &mail.bytes)
+        };
+        let opened = Engine::PAPER.open_request(image, request);
+        let stash = Stash::of(request);
+        let holder = Paper.holder(image)?;
+        Some(Stashed {
+            svn: stash.svn,
+            is_kind: stash.svn == stash.kind,
+            is_caller: stash.svn == stash.caller,
+            before: node_of(image, holder)[SVN],
+            number: opened.err().unwrap_or(0),
+        })
     }
+}
+
+/// A node with an svn other than 0 at a boot or a stash, all else of the unit
+/// being fine: its index, whether it is used or the root, the svn if the node is
+/// free, and the opening's letter.
+#[derive(Debug, PartialEq, Eq, PartialOrd, Ord)]
+enum Met {
+    Free(usize, u32, u8),
+    Used(usize, u8),
+    Root(usize, u8),
+}
+
+impl Met {
+    fn on(image: &[u32], letter: u8) -> Vec<Met> {
+        let mut mended = image.to_vec();
+        (0..NODES).for_each(|index| mended[node(index) + SVN] = 0);
+        if image[MARK] != DONE || image[ATTESTATION] != ON || !Paper.well_formed(&mended) {
+            return vec![];
+        }
+        let with_svn = (0..NODES).filter(|&index| node_of(image, index)[SVN] != 0);
+        let met = |index: usize| {
+            let svn = node_of(image, index)[SVN];
+            if Paper.is_free(image, index) {
+                Met::Free(index, svn, letter)
+            } else if Paper.is_root(image, index) {
+                Met::Root(index, letter)
+            } else {
+                Met::Used(index, letter)
+            }
+        };
+        with_svn.map(met).collect()
+    }
+}
+
+/// The svns of lists of operations, each played from the start.
+fn svns(lists: impl Iterator<Item = Vec<Op>>) -> (BTreeSet<Stashed>, BTreeSet<Met>) {
+    let (mut stashes, mut met) = (BTreeSet::new(), BTreeSet::new());
+    let stash_bytes = command(STASH).map(|stash| stash.request_bytes);
+    for ops in lists {
+        let mut player = Player::new(Engine::PAPER);
+        for op in ops {
+            let image = player.image();
+            if image.len() == IMAGE_WORDS {
+                match &op {
+                    Op::Request(mail)
+                        if mail.code == STASH && Some(mail.bytes.len()) == stash_bytes =>
+                    {
+                        stashes.extend(Stashed::on(image, mail));
+                        met.extend(Met::on(image, op.letter()));
+                    }
+                    Op::Update(..) => met.extend(Met::on(image, op.letter())),
+                    _ => {}
+                }
+            }
+            player.operate(op).expect("the books agree");
+        }
+    }
+    (stashes, met)
+}
+
+/// Every sort of svn is stashed, over lower and higher ones; free and used nodes
+/// from `first` on have svns at a stash and at an update boot.
+fn has_every_svn((stashes, met): &(BTreeSet<Stashed>, BTreeSet<Met>), first: usize) {
+    let has = |what: &str, sort: &dyn Fn(&Stashed) -> bool| {
+        let mut accepted = stashes.iter().filter(|stash| stash.number == 0);
+        assert!(accepted.any(sort), "{what}");
+    };
+    for svn in [0, 1, 0x8000_0000, u32::MAX, 0x0403_0201] {
+        has("svn", &|stash| stash.svn == svn);
+    }
+    has("type", &|stash| stash.is_kind && !stash.is_caller);
+    has("caller", &|stash| stash.is_caller && !stash.is_kind);
+    has("lower", &|stash| stash.svn < stash.before);
+    has("zero over another", &|stash| {
+        stash.svn == 0 && stash.before != 0
+    });
+    has("equal", &|stash| {
+        stash.svn == stash.before && stash.svn != 0
+    });
+    has("higher", &|stash| {
+        stash.svn > stash.before && stash.before != 0
+    });
+    for letter in *b"RU" {
+        for index in first..NODES {
+            for svn in [1, 0x8000_0000] {
+                let free = Met::Free(index, svn, letter);
+                assert!(met.contains(&free), "{free:?}");
+            }
+            let used = [Met::Used(index, letter), Met::Root(index, letter)];
+            assert!(used.iter().any(|used| met.contains(used)), "{used:?}");
+        }
+        let is_root = |met: &Met| matches!(met, Met::Root(_, of) if *of == letter);
+        assert!(met.iter().any(is_root), "a root");
+    }
+}
+
+#[test]
+fn the_first_scripts_hold_every_case_of_an_svn() {
+    has_every_svn(&svns((0..SEEDS).map(|seed| script(seed).ops)), 1);
+}
+
+#[test]
+fn an_input_without_a_seed_holds_every_case_of_an_svn() {
+    let inputs = svn_inputs();
+    let lists = inputs.iter().map(|input| Reader::new(input).collect());
+    has_every_svn(&svns(lists), 0);
+}
+
+#[test]
+fn an_input_without_a_seed_tells_every_wrong_svn() {
+    tell_every_engine(&svn_inputs(), "The svn");
 }
 
 #[test]
@@ -468,8 +611,10 @@ fn the_inputs_without_a_seed_hold_every_case() {
         all.waiting.extend(player.seen.waiting);
         all.cuts.extend(player.seen.cuts);
     }
-    for position in 0..=EXTENSION_STORES as u64 {
-        assert!(all.cuts.contains(&(Sort::Extension, position)));
+    for sort in [Sort::Extension, Sort::Stash] {
+        for position in 0..=sort.stores() as u64 {
+            assert!(all.cuts.contains(&(sort, position)), "{sort:?} {position}");
+        }
     }
     assert!(cuts()
         .iter()
@@ -486,17 +631,20 @@ fn the_inputs_without_a_seed_hold_every_case() {
         ('A', 7),
         ('A', NONE_IN_HAND),
         ('C', 0),
+        ('C', 1),
         ('C', 6),
         ('R', 0),
         ('R', 1),
         ('R', 2),
         ('R', 4),
+        ('R', 11),
         ('R', 12),
         ('R', 13),
         ('R', number::CHECKSUM),
         ('S', 0),
         ('S', 9),
         ('U', 0),
+        ('U', 1),
         ('U', 6),
         ('e', 0),
         ('e', 27),

@@ -40,7 +40,7 @@ fn run(work: &mut Work, image: &mut [u32]) {
 /// A booted unit whose registers from PCR4 on have values of their own.
 fn valued() -> Vec<u32> {
     let mut image = booted();
-    for (word, value) in (64..400).zip(0x0A0B_0C01..) {
+    for (word, value) in (register(4)..NODES_AT).zip(0x0A0B_0C01..) {
         image[word] = value;
     }
     image
@@ -56,9 +56,14 @@ fn unpacked(words: &[u32]) -> Vec<u8> {
     words.iter().flat_map(|word| word.to_le_bytes()).collect()
 }
 
+/// The words of a register.
+fn pcr(image: &[u32], index: usize) -> &[u32] {
+    &image[register(index)..][..DIGEST_WORDS]
+}
+
 /// The digest of a register's old 48 bytes and of 48 equal ones.
 fn value(image: &[u32], register: usize, filling: u8) -> Vec<u32> {
-    let old = unpacked(&image[16 + 12 * register..][..12]);
+    let old = unpacked(pcr(image, register));
     packed(&digest(&[&old[..], &[filling; 48]].concat()))
 }
 
@@ -84,21 +89,23 @@ fn stores_one(work: &mut Work, image: &mut [u32], word: usize, value: u32) {
 
 #[test]
 fn every_register_takes_fourteen_stores() {
-    for register in 4..=30 {
+    for named in 4..=30 {
         let mut image = valued();
-        let twelve = value(&image, register, 0x77);
-        let mut work = extend(&image, register as u32, 0x77).expect("a fine register");
-        let named = register as u64;
-        assert_eq!(work.kind, Kind::Extension { register: named });
-        assert_eq!(ENGINE.left(&work), 14);
+        let twelve = value(&image, named, 0x77);
+        let mut work = extend(&image, named as u32, 0x77).expect("a fine register");
+        let kind = Kind::Extension {
+            register: named as u64,
+        };
+        assert_eq!(work.kind, kind);
+        assert_eq!(ENGINE.left(&work), EXTENSION_STORES as u32);
         answers(&work, WAITS);
-        stores_one(&mut work, &mut image, 0, 0);
-        for (word, &value) in (16 + 12 * register..).zip(&twelve) {
+        stores_one(&mut work, &mut image, MARK, 0);
+        for (word, &value) in (register(named)..).zip(&twelve) {
             stores_one(&mut work, &mut image, word, value);
         }
         assert_eq!(ENGINE.left(&work), 1);
         answers(&work, WAITS);
-        stores_one(&mut work, &mut image, 0, 1);
+        stores_one(&mut work, &mut image, MARK, 1);
         assert_eq!(ENGINE.store(&mut work, &mut image), 9);
         for _ in 0..2 {
             answers(&work, ANSWERED);
@@ -125,10 +132,10 @@ fn two_extensions_by_hand() {
     for (filling, expected) in [(0x77, ONCE), (0x88, TWICE)] {
         let mut work = extend(&image, 30, filling).expect("a fine register");
         run(&mut work, &mut image);
-        assert_eq!(hex(&image[376..388]), expected);
+        assert_eq!(hex(pcr(&image, 30)), expected);
     }
     // All else is as the cold boot left it.
-    image[376..388].fill(0);
+    image[register(30)..][..DIGEST_WORDS].fill(0);
     assert_eq!(image, booted());
 }
 
@@ -184,7 +191,7 @@ fn the_other_numbers_come_first() {
 #[test]
 fn the_tree_does_not_count() {
     let mut malformed = valued();
-    malformed[400 + 34] = 1 << 16 | 1;
+    malformed[node(1)] = 1 << 16 | 1;
     assert!(!Paper.well_formed(&malformed));
     let full = odd_image_2();
     assert_eq!(Paper.free_node(&full), None);
@@ -192,10 +199,15 @@ fn the_tree_does_not_count() {
         let twelve = value(&image, 4, 5);
         let mut work = extend(&image, 4, 5).expect("a fine register");
         run(&mut work, &mut image);
-        assert_eq!(image[64..76], twelve);
+        assert_eq!(pcr(&image, 4), twelve);
         image[ATTESTATION] = 0;
         assert_eq!(refused(&image, 4), 13);
     }
+}
+
+/// The words of the register that so many stores have made.
+fn stored(made: usize) -> usize {
+    made.saturating_sub(1).min(DIGEST_WORDS)
 }
 
 /// The update boot after a cut: its outcome, and the image that it leaves.
@@ -209,21 +221,21 @@ fn booted_after(image: &mut [u32]) -> u8 {
 
 #[test]
 fn a_torn_extension_disables() {
-    for made in 0..=14 {
+    for made in 0..=EXTENSION_STORES {
         let mut image = valued();
-        let (old, new) = (image[64..76].to_vec(), value(&image, 4, 5));
+        let (old, new) = (pcr(&image, 4).to_vec(), value(&image, 4, 5));
         let mut work = extend(&image, 4, 5).expect("a fine register");
         for _ in 0..made {
             assert_eq!(ENGINE.store(&mut work, &mut image), 0);
         }
-        let torn = (1..14).contains(&made);
+        let torn = (1..EXTENSION_STORES).contains(&made);
         let outcome = booted_after(&mut image);
         assert_eq!(outcome, if torn { DISABLED } else { UPDATED });
         assert_eq!(image[ATTESTATION] == 1, !torn);
-        assert_eq!(image[SECRET..REGISTERS_AT] == [0; 12], torn);
-        let stored = (made.max(1) - 1).min(12);
+        assert_eq!(image[SECRET..REGISTERS_AT] == [0; DIGEST_WORDS], torn);
+        let stored = stored(made);
         let expected = [&new[..stored], &old[stored..]].concat();
-        assert_eq!(image[64..76], expected);
+        assert_eq!(pcr(&image, 4), expected);
         assert_eq!(refused(&image, 3), 12);
         assert_eq!(extend(&image, 4, 5).is_err(), torn);
     }
@@ -232,16 +244,17 @@ fn a_torn_extension_disables() {
 #[test]
 fn an_update_keeps_the_registers_and_a_cold_boot_does_not() {
     let mut image = valued();
-    let before = image[64..388].to_vec();
+    let extendable = register(4)..register(31);
+    let before = image[extendable.clone()].to_vec();
     assert_eq!(booted_after(&mut image), UPDATED);
-    assert_eq!(image[64..388], before);
+    assert_eq!(image[extendable], before);
     let (mut work, _) = ENGINE.open_cold(&image, BOOTED_WITH).expect("a cold boot");
     run(&mut work, &mut image);
     assert_eq!(image, booted());
 }
 
 /// A driver that has the second extension of PCR17 in hand, stored so far.
-fn driven(made: u32) -> Player {
+fn driven(made: usize) -> Player {
     let mut player = Player::new(ENGINE);
     let extension = |filling: u8| {
         Op::Request(Mail {
@@ -254,11 +267,11 @@ fn driven(made: u32) -> Player {
     };
     let boot = BootBytes::from(BOOTED_WITH);
     for (opening, stores) in [
-        (Op::Cold(boot), 1_217),
-        (extension(0x77), 14),
+        (Op::Cold(boot), COLD_STORES),
+        (extension(0x77), EXTENSION_STORES),
         (extension(0x88), made),
     ] {
-        for op in [opening, Op::Store(stores)] {
+        for op in [opening, Op::Store(stores as u32)] {
             player.operate(op).expect("the book agrees");
         }
     }
@@ -274,20 +287,25 @@ fn in_hand(player: &Player) -> Work {
     player.work().expect("a work in hand").clone()
 }
 
+fn left(player: &Player) -> usize {
+    ENGINE.left(&in_hand(player)) as usize
+}
+
 #[test]
 fn a_register_set_within_takes_the_prepared_value() {
     let prepared = value(driven(0).image(), 17, 0x88);
-    for made in 0..=14 {
-        for to in [4usize, 16, 18, 30] {
+    for made in 0..=EXTENSION_STORES {
+        for to in [4, 16, 18, 30] {
             let mut player = driven(made);
             let before = player.image().to_vec();
             set(&mut player, 1, to as u64);
-            assert_eq!(ENGINE.left(&in_hand(&player)), 14 - made);
-            player.operate(Op::Store(14)).expect("no book");
+            assert_eq!(left(&player), EXTENSION_STORES - made);
+            let rest = Op::Store(EXTENSION_STORES as u32);
+            player.operate(rest).expect("no book");
             let mut expected = before;
-            expected[0] = 1;
-            let stored = (made.max(1) - 1).min(12) as usize;
-            expected[16 + 12 * to..][..12][stored..].copy_from_slice(&prepared[stored..]);
+            expected[MARK] = 1;
+            let stored = stored(made);
+            expected[register(to)..][..DIGEST_WORDS][stored..].copy_from_slice(&prepared[stored..]);
             assert_eq!(player.image(), expected);
             answers(&in_hand(&player), ANSWERED);
         }
@@ -297,7 +315,7 @@ fn a_register_set_within_takes_the_prepared_value() {
 #[test]
 fn a_register_set_outside_is_beyond() {
     let outside = [0, 3, 31, 32, 36, (1 << 32) + 4, (1 << 63) + 4, u64::MAX];
-    for made in 0..=14 {
+    for made in 0..=EXTENSION_STORES {
         for to in outside {
             let mut player = driven(made);
             set(&mut player, 1, to);
@@ -309,14 +327,14 @@ fn a_register_set_outside_is_beyond() {
             assert_eq!((&image[..], &work), (player.image(), &in_hand(&player)));
             // Set back, it is as good as before.
             set(&mut player, 1, 17);
-            assert_eq!(ENGINE.left(&in_hand(&player)), 14 - made);
+            assert_eq!(left(&player), EXTENSION_STORES - made);
         }
     }
 }
 
 #[test]
 fn an_extension_has_no_second_index() {
-    for value in [0, 5, 24, u64::MAX] {
+    for value in [0, 5, NODES as u64, u64::MAX] {
         let mut player = driven(3);
         let before = in_hand(&player);
         set(&mut player, 2, value);
@@ -326,13 +344,13 @@ fn an_extension_has_no_second_index() {
 
 #[test]
 fn the_book_follows_an_extension() {
-    let mut player = driven(14);
+    let mut player = driven(EXTENSION_STORES);
     let update = Op::Update(BOOTED_WITH.into(), 1);
-    for op in [update, Op::Store(62)] {
+    for op in [update, Op::Store(UPDATE_STORES as u32)] {
         player.operate(op).expect("the book agrees");
     }
     assert_eq!(player.seen.looks, 1);
-    assert_eq!(hex(&player.image()[220..232]), TWICE);
+    assert_eq!(hex(pcr(player.image(), 17)), TWICE);
 }
 
 #[test]

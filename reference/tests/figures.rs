@@ -9,11 +9,11 @@ use reference::sha384::BLOCK_BYTES;
 fn the_image() {
     assert_eq!(
         (IMAGE_WORDS, NODES, NODE_WORDS, REGISTERS),
-        (1_216, 24, 34, 32)
+        (1_240, 24, 35, 32)
     );
     assert_eq!((MARK, ATTESTATION, SPARE, SECRET), (0, 1, 2, 4));
     assert_eq!((register(0), register(31)), (16, 388));
-    assert_eq!((node(0), node(1), node(23)), (400, 434, 1_182));
+    assert_eq!((node(0), node(1), node(23)), (400, 435, 1_205));
     assert_eq!(MAX_STEPS, 23);
 }
 
@@ -21,15 +21,16 @@ fn the_image() {
 fn a_node() {
     assert_eq!((TAG, HANDLE, HANDLE_WORDS, FLAGS), (1, 2, 5, 7));
     assert_eq!((NODE_CURRENT, NODE_CUMULATIVE), (8, 20));
-    assert_eq!((TYPE, LOCALITY), (32, 33));
+    assert_eq!((TYPE, LOCALITY, SVN), (32, 33, 34));
 }
 
 #[test]
 fn the_numbers_of_stores() {
-    assert_eq!((STASH_STORES, DISABLING_STORES), (53, 15));
-    assert_eq!((UPDATE_STORES, COLD_STORES), (62, 1_217));
+    assert_eq!((STASH_STORES, DISABLING_STORES), (54, 15));
+    assert_eq!((UPDATE_STORES, COLD_STORES), (62, 1_241));
     assert_eq!(EXTENSION_STORES, 14);
-    assert_eq!(Sort::ALL.map(Sort::stores), [0, 15, 53, 62, 1_217, 14]);
+    assert_eq!(BEFORE_SVN, 47);
+    assert_eq!(Sort::ALL.map(Sort::stores), [0, 15, 54, 62, 1_241, 14]);
     assert_eq!(Sort::ALL.map(|sort| sort as usize), [0, 1, 2, 3, 4, 5]);
 }
 
@@ -54,6 +55,11 @@ fn the_commands() {
         ]
     );
     assert_eq!(rows.iter().map(|row| row.2).max(), Some(ANSWER_MAX));
+}
+
+#[test]
+fn a_stash() {
+    assert_eq!((STASH_TYPE, STASH_DIGEST, STASH_SVN), (4, 8, 56));
 }
 
 #[test]

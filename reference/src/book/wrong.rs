@@ -1,7 +1,7 @@
 //! Books that are wrong on purpose: the right engine has to disagree with them.
 
 use super::slices::Slices;
-use super::{Book, Event, Look, Measure, Opened, State};
+use super::{root, stashed, Book, Event, Look, Node, Opened, Reading, State};
 use crate::boots::{Boot, Boots, Inputs};
 use crate::engine::Paper;
 use crate::layout::{extended, STASHED};
@@ -143,12 +143,63 @@ pub const BOOKS: &[WrongBook] = &[
     book(
         "HistoryWithoutManifest",
         "a boot in the history extends by the runtime digest only",
-        &Measuring(|before, boot| extended(before, &boot.runtime)),
+        &Reads(Reading {
+            measure: |before, boot| extended(before, &boot.runtime),
+            ..Reading::PAPER
+        }),
     ),
     book(
         "HistorySwapped",
         "a boot in the history extends by the manifest digest first",
-        &Measuring(|before, boot| extended(&extended(before, &boot.manifest), &boot.runtime)),
+        &Reads(Reading {
+            measure: |before, boot| extended(&extended(before, &boot.manifest), &boot.runtime),
+            ..Reading::PAPER
+        }),
+    ),
+    book(
+        "HistoryWithoutSvn",
+        "a stash in the history has svn 0",
+        &Reads(Reading {
+            stashed: |holder, stash| Node {
+                svn: 0,
+                ..stashed(holder, stash)
+            },
+            ..Reading::PAPER
+        }),
+    ),
+    book(
+        "HistorySvnInTag",
+        "a stash in the history has its svn as the tag",
+        &Reads(Reading {
+            stashed: |holder, stash| Node {
+                tag: stash.svn,
+                svn: 0,
+                ..stashed(holder, stash)
+            },
+            ..Reading::PAPER
+        }),
+    ),
+    book(
+        "HistorySvnIsType",
+        "a stash in the history has its type as the svn",
+        &Reads(Reading {
+            stashed: |holder, stash| Node {
+                svn: stash.kind,
+                ..stashed(holder, stash)
+            },
+            ..Reading::PAPER
+        }),
+    ),
+    book(
+        "HistoryRootSvn",
+        "a cold boot in the history gives its root svn 1",
+        &Reads(Reading {
+            root: |journey| Node {
+                svn: 1,
+                ..root(journey)
+            },
+            ..Reading::PAPER
+        }),
     ),
     book(
         "BeginForgotten",
@@ -266,7 +317,7 @@ impl Keeper for Forgotten {
         let stored = book.store();
         if book.history.last().is_some_and(self.0) {
             book.history.pop();
-            book.state = State::replay(&book.history, book.measure);
+            book.state = State::replay(&book.history, book.reading);
         }
         stored
     }
@@ -283,7 +334,7 @@ impl Keeper for Extending {
             if let Some(Event::Extension(extension)) = book.history.last().cloned() {
                 book.history.pop();
                 (self.0)(book, extension);
-                book.state = State::replay(&book.history, book.measure);
+                book.state = State::replay(&book.history, book.reading);
             }
         }
         stored
@@ -318,18 +369,18 @@ impl Keeper for ExtensionsUntilUpdate {
         if let Some(Event::Update(_)) = book.history.last() {
             let is_extension = |event: &Event| matches!(event, Event::Extension(_));
             book.history.retain(|event| !is_extension(event));
-            book.state = State::replay(&book.history, book.measure);
+            book.state = State::replay(&book.history, book.reading);
         }
         stored
     }
 }
 
-/// Has another rule for a boot's registers.
-struct Measuring(Measure);
+/// Reads the history by other rules.
+struct Reads(Reading);
 
-impl Keeper for Measuring {
+impl Keeper for Reads {
     fn cold(&self, boot: Boot) -> Book {
-        Book::measuring(boot, self.0)
+        Book::read_so(boot, self.0)
     }
 }
 

@@ -1,5 +1,6 @@
 //! Damage to a tree that is well formed: one sort, one function.
 
+use super::svns::{HIGH, LOW};
 use crate::layout::*;
 use crate::random::Random;
 
@@ -84,7 +85,7 @@ pub(super) const FAULTS: &[Fault] = &[
     free_high_half,
     free_word,
     free_word,
-    free_last_word,
+    free_svn,
     second_root,
     no_root,
     odd_root_parent,
@@ -142,9 +143,9 @@ fn free_word(drawn: &mut Drawn, random: &mut Random) {
     }
 }
 
-fn free_last_word(drawn: &mut Drawn, random: &mut Random) {
+fn free_svn(drawn: &mut Drawn, random: &mut Random) {
     if let Some(free) = drawn.free(random) {
-        free[NODE_WORDS - 1] = 1;
+        free[SVN] = random.pick(&[LOW, HIGH]);
     }
 }
 

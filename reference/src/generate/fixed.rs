@@ -1,8 +1,9 @@
 //! Inputs that have no seed: they go through every case of the running digest,
-//! of a boot's inputs and of an extension.
+//! of a boot's inputs, of an svn and of an extension.
 
 use super::fixed_boots::boot_inputs;
 use super::fixed_extensions::extensions;
+use super::fixed_svns::svns;
 use super::slices::{cuts, BLOCK, MANY, PAST};
 use crate::layout::{SLICE_BYTES, TOTAL_BYTES};
 use crate::random::Random;
@@ -27,8 +28,20 @@ pub fn fixed_inputs() -> Vec<Vec<u8>> {
     inputs.extend(in_pieces(cuts().into_iter().map(cut_in_two)));
     inputs.extend(in_pieces(pairs().map(cut_in_three)));
     inputs.extend([slice_to_the_end(0), slice_to_the_end(1)]);
-    inputs.extend([encode(&boot_inputs()), encode(&extensions())]);
+    inputs.push(encode(&boot_inputs()));
+    inputs.push(extension_input());
+    inputs.extend(svn_inputs());
     inputs
+}
+
+/// Every case of an extension.
+pub fn extension_input() -> Vec<u8> {
+    encode(&extensions())
+}
+
+/// Every case of an svn.
+pub fn svn_inputs() -> Vec<Vec<u8>> {
+    in_pieces(svns().into_iter())
 }
 
 fn message(length: usize) -> Vec<u8> {

@@ -1,7 +1,8 @@
 //! Images that no list reaches: trees of any shape, and damage of every sort.
 
 use super::damage::{Drawn, FAULTS};
-use super::Maker;
+use super::svns::svns;
+use super::{Maker, IMAGE_BYTES};
 use crate::layout::*;
 use crate::mailbox::booted;
 use crate::script::{Op, LENT_WORDS};
@@ -41,11 +42,16 @@ fn retire(image: &mut [u32], index: usize) {
     image[node(index) + HANDLE..][..HANDLE_WORDS].copy_from_slice(&RETIRED_HANDLE);
 }
 
-/// A script with more bytes gets no further image.
-const MOST_BEFORE_IMAGE: usize = 13_000;
+/// A script with more bytes gets no further image: about two, and what is tried
+/// on them.
+const MOST_BEFORE_IMAGE: usize = 2 * IMAGE_BYTES + 3_000;
 
 /// A script with more bytes gets no two images at once.
-const MOST_BEFORE_TWINS: usize = 6_000;
+const MOST_BEFORE_TWINS: usize = IMAGE_BYTES + 1_000;
+
+/// The bits of a parent's index in a wild image: numbers behind the nodes have
+/// no more.
+const PARENT_BITS: u32 = (NODES as u32 + 1).next_power_of_two() - 1;
 
 impl Maker {
     pub(super) fn images(&mut self, count: usize) {
@@ -99,7 +105,7 @@ impl Maker {
         }
         if self.random.once_in(2) {
             for index in 0..NODES {
-                words[node(index)] &= 0x001F_0001;
+                words[node(index)] &= PARENT_BITS << 16 | USED;
             }
         }
         words
@@ -168,6 +174,9 @@ impl Maker {
             node[HANDLE..][..HANDLE_WORDS].copy_from_slice(&handle);
             node[FLAGS] = if place == 0 { INTERNAL } else { 0 };
             node[TYPE] = if place == 0 { RTJM } else { kind };
+            if self.random.once_in(2) {
+                node[SVN] = self.random.pick(&svns(kind, node[LOCALITY]));
+            }
         }
         let current = node(used[0]) + NODE_CURRENT;
         words.copy_within(current..current + DIGEST_WORDS, register(JOURNEY));
@@ -214,6 +223,9 @@ impl Maker {
             // The tree does not count.
             self.push_extension();
             self.push(Op::Left);
+        }
+        if self.random.once_in(4) {
+            self.push_outside();
         }
         for _ in 0..self.random.between(1, 3) {
             match self.random.below(7) {

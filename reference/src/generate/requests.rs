@@ -84,39 +84,15 @@ impl Maker {
     }
 
     pub(super) fn push_stash(&mut self) {
-        let body = self.stash_body();
+        let stash = self.stash();
         let table = self.idle_table();
         let yes = self.random.once_in(2);
-        self.push_request(STASH, &body, table, yes);
-    }
-
-    /// A stash's type, digest and svn.
-    fn stash_body(&mut self) -> Vec<u8> {
-        let mut body = self.word().to_le_bytes().to_vec();
-        body.extend(self.digest());
-        body.extend(self.word().to_le_bytes());
-        body
-    }
-
-    /// Two whole stashes on the same image, alike but for the svn.
-    pub(super) fn push_twins(&mut self, image: &[u32]) {
-        let mut body = self.stash_body();
-        let caller = self.word();
-        for _ in 0..2 {
-            self.push(Op::Image(image.to_vec()));
-            let mail = Mail {
-                code: STASH,
-                caller,
-                verdict: 0,
-                table: Vec::new(),
-                bytes: sealed(STASH, &body),
-            };
-            self.push(Op::Request(mail));
-            self.push_stores(STASH_STORES);
-            self.push(Op::Answer(12));
-            self.push(Op::Dump);
-            body[STASH_SVN - CHECKSUM_BYTES] ^= 0xFF;
-        }
+        let verdict = self.verdict(yes);
+        self.push(Op::Request(Mail {
+            verdict,
+            table,
+            ..super::svns::mail(&stash)
+        }));
     }
 
     pub(super) fn push_disable(&mut self) {

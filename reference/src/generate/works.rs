@@ -142,6 +142,7 @@ impl Maker {
         let (nodes, most) = (NODES as u64, ANSWER_MAX as u64);
         let node_field = 1 + DIGEST_WORDS as u64;
         let handle_field = node_field + NODE_WORDS as u64;
+        let svn_field = BEFORE_SVN as u64;
         let value = match field {
             0 => self.random.pick(&[
                 0,
@@ -154,7 +155,8 @@ impl Maker {
                 inside,
                 inside,
                 node_field,
-                handle_field - 1,
+                svn_field - 1,
+                svn_field,
                 handle_field,
                 handle_field + HANDLE_WORDS as u64 - 1,
                 1 << 32,
@@ -221,7 +223,8 @@ impl Maker {
             self.push(Op::Dump);
         }
         if self.random.once_in(2) {
-            let count = self.random.pick(&[0, 1, 2, number as u32, 2_000]);
+            let all = COLD_STORES as u32 + 1;
+            let count = self.random.pick(&[0, 1, 2, number as u32, all]);
             self.push(Op::Store(count));
             self.push(Op::Left);
         }

@@ -19,7 +19,11 @@ fn sparing(work: &mut Work, image: &mut [u32], from: usize, count: usize) -> u32
 
 /// A cold boot with some of its words altered; the words are counted as in the
 /// image.
-fn altered(image: &[u32], inputs: Inputs, alter: fn(&mut [u32])) -> Result<Opened, u32> {
+pub(super) fn altered(
+    image: &[u32],
+    inputs: Inputs,
+    alter: impl Fn(&mut [u32]),
+) -> Result<Opened, u32> {
     let (mut work, outcome) = Paper.cold(image, inputs)?;
     let mut whole = vec![0; ATTESTATION];
     whole.append(&mut work.whole);

@@ -1,11 +1,70 @@
-//! What is read of the image, and "well formed".
+//! What is read of the image, its length, and "well formed".
 
+use crate::boots::{Boot, Boots, Inputs, Opened};
 use crate::engine::Paper;
 use crate::layout::*;
-use crate::memory::{count, low_half, Memory};
+use crate::memory::{count, low_half, Memory, Unit};
+use crate::requests::{Request, Requests};
+use crate::work::{Work, Works};
 use std::iter::successors;
 
+/// The words of an image as far as they are used.
+fn cut(image: &[u32]) -> &[u32] {
+    image.get(..IMAGE_WORDS).unwrap_or(image)
+}
+
+/// An image that lacks its last word, with a zero there; another as it is.
+fn filled(image: &[u32]) -> Vec<u32> {
+    let mut image = image.to_vec();
+    if image.len() == IMAGE_WORDS - 1 {
+        image.push(0);
+    }
+    image
+}
+
 super::engines! {
+
+LongImageTaken: "of a longer image the first words are taken"
+[requests: Requests] {
+    fn open(&self, unit: Unit, request: Request) -> Result<Work, u32> {
+        Paper.open(Unit { image: cut(unit.image), ..unit }, request)
+    }
+}
+[boots: Boots] {
+    fn accept(&self, image: &[u32], inputs: Inputs) -> Result<Boot, u32> {
+        Paper.accept(cut(image), inputs)
+    }
+}
+[works: Works] {
+    fn store(&self, work: &mut Work, image: &mut [u32]) -> u32 {
+        let most = image.len().min(IMAGE_WORDS);
+        Paper.store(work, &mut image[..most])
+    }
+}
+
+ShortImageTaken: "an image may lack its last word"
+[requests: Requests] {
+    fn open(&self, unit: Unit, request: Request) -> Result<Work, u32> {
+        Paper.open(Unit { image: &filled(unit.image), ..unit }, request)
+    }
+}
+[boots: Boots] {
+    fn cold(&self, image: &[u32], inputs: Inputs) -> Result<Opened, u32> {
+        Paper.cold(&filled(image), inputs)
+    }
+    fn update(&self, unit: Unit, inputs: Inputs, verdict: bool) -> Result<Opened, u32> {
+        Paper.update(Unit { image: &filled(unit.image), ..unit }, inputs, verdict)
+    }
+}
+[works: Works] {
+    fn store(&self, work: &mut Work, image: &mut [u32]) -> u32 {
+        let mut whole = filled(image);
+        let number = Paper.store(work, &mut whole);
+        let words = image.len();
+        image.copy_from_slice(&whole[..words]);
+        number
+    }
+}
 
 MarkNonZero: "any mark but 0 is done"
 [memory: Memory] {

@@ -65,15 +65,6 @@ CumulativeIsCurrent: "the new cumulative is the digest"
     }
 }
 
-SvnInTag: "the svn is stored as the tag"
-[requests: Requests] {
-    fn stash_work(&self, unit: Unit, stash: &Stash, answer: &[u8]) -> Work {
-        let mut work = Paper.stash_work(unit, stash, answer);
-        work.node[TAG] = stash.svn;
-        work
-    }
-}
-
 HolderKept: "the old holder's words are stored as they were"
 [works: Works] {
     fn fields<'a>(&self, work: &'a Work) -> Vec<Field<'a>> {
