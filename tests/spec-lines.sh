@@ -4,7 +4,7 @@
 # a `use` do not count; neither do definitions that no statement rests on (figures as numerals, the geometry's
 # record).
 set -euo pipefail
-limit=1020
+limit=1021
 usage="usage: tests/spec-lines.sh [--list | --help] [ROOT]
   Prints 'N lines of definitions'; exit status 1 if they are more than $limit.
   --list  prints each definition that counts before that, with its lines

@@ -1,5 +1,5 @@
--- Document 01's bench cards *1 to *9, "shown by proof as one table under a single statement", and card 10; 4 and 10 as document 02, §11, has them, 6 as its §7 has it.
--- Assumes nothing.
+-- Document 01's bench cards *1 to *9, "shown by proof as one table under a single statement", and card 10; 4 and 10 as document 02, §11, has them,
+-- 6 as its §7 has it. Assumes nothing.
 use mathlib.Core.Path.{_≡_}
 use mathlib.Core.Logic.{_⊎_, _≢_}
 use Prim.Native.Nat.{ℕ, _<_, _≤_}
@@ -33,7 +33,7 @@ pub record GivesOne (image : List ℕ) : Type 0 where
   pub updateBoot : (x : BootInputs) (verdict : Bool) → bootNumber (openUpdateBoot image x verdict .status) ≡ 1
   pub store : (w : Work) → storeNumber w image ≡ 1
 
--- an image at which a stash depends on the free nodes alone: 1,240 words, mark 1, attestation on, well formed
+-- an image at which a stash depends on the free nodes alone: the right length, mark 1, attestation on, well formed
 pub record Serving (image : List ℕ) : Type 0 where
   pub size : length image ≡ imageWords
   pub done : getD image markAt 0 ≡ 1

@@ -79,16 +79,16 @@ pub extension-calls : List Call
 extension-calls =
     request (requestOf extendCode (bytes4 (checksumOf extendCode arguments) ++ arguments) 0 [] false) ∷ replicate (numberOf (Extension extendFirst)) store
 
--- a measurement of the svn 0x04030201, stashed to its end
+-- a measurement of type "HOUR" and svn 0x04030201, stashed to its end
 pub svn : ℕ
 svn = 0x04030201
 
-measured-arguments : List ℕ
-measured-arguments = bytes4 0x52554F48 ++ (digest ++ bytes4 svn)
+stash-arguments : List ℕ
+stash-arguments = bytes4 0x52554F48 ++ (digest ++ bytes4 svn)
 
 pub stash-calls : List Call
 stash-calls =
-    request (requestOf stashCode (bytes4 (checksumOf stashCode measured-arguments) ++ measured-arguments) 5 [] false)
+    request (requestOf stashCode (bytes4 (checksumOf stashCode stash-arguments) ++ stash-arguments) 5 [] false)
     ∷ replicate (numberOf (Stash (record { node = 1; holder = 0 }))) store
 
 -- the registers that a cold boot leaves
@@ -136,7 +136,7 @@ module _ (before : List ℕ) (e : length before ≡ imageWords) where
   -- and that a stash's svn is word 34 of its node, and the root's is 0
   pub svn-counts : (getD (run step (afterColdBoot before inputs) stash-calls .image) (nodeAt 1 + svnAt) 0 ≡ svn)
       × (getD (run step (afterColdBoot before inputs) stash-calls .image) (nodeAt 0 + svnAt) 0 ≡ 0)
-  unfolding ledgerStep letGo viewOf stateOf nextChain wrongChecksum checksumOf inputsOk inputs digest measured-arguments stash-calls svn numberOf nodeRow wordsAt tab zeros allBelow countBelow firstFrom wellFormed placeOk isRoot rootOk childOk handleOk sameHandle hasHandle leads leadsIfUsed nodeWith lowestFree
+  unfolding ledgerStep letGo viewOf stateOf nextChain wrongChecksum checksumOf inputsOk inputs digest stash-arguments stash-calls svn numberOf nodeRow wordsAt tab zeros allBelow countBelow firstFrom wellFormed placeOk isRoot rootOk childOk handleOk sameHandle hasHandle leads leadsIfUsed nodeWith lowestFree
   svn-counts = (at (nodeWords + svnAt), at svnAt)
     where
       image : List ℕ

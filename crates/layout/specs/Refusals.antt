@@ -1,7 +1,7 @@
 -- The numbers handed back (document 01, "Numbers handed back" and the sentence on a declined stash). Success is 0. Assumes nothing.
 use Prim.Native.Nat.{ℕ}
 
--- "1 image not 1,240 words"
+-- "1 image not .. words": of another length
 abbrev pub wrongImage : ℕ
 wrongImage = 1
 

@@ -38,7 +38,7 @@ registersAt = 16
 abbrev pub nodesAt : ℕ
 nodesAt = registersAt + registerCount * registerWords
 
--- 1,240 words
+-- all words of the image
 abbrev pub imageWords : ℕ
 imageWords = nodesAt + nodeCount * nodeWords
 

@@ -90,9 +90,6 @@ unfolding nodeRow
 length-row none = length-zeros nodeWords
 length-row (some n) = simp (length-append, length-handle, length-words)
 
-from : (at j : ℕ) → at + j - at ≡ j
-from at j = omega arith
-
 -- ---- a row from its words, with tag 0 and the default handle, as the code makes it
 
 pub default-row : handleRow defaultHandle ≡ zeros handleWords
@@ -141,6 +138,9 @@ module _ (first flags type locality svn : ℕ) (current cumulative : List ℕ) (
       tab-full f l nodeWords h e ∙ tab-is f (flat raw) nodeWords raw-length (λ i b. refl)
 
 -- ---- a root's new measurements, in the places that they have in a node
+
+from : (at j : ℕ) → at + j - at ≡ j
+from at j = omega arith
 
 module _ (current cumulative : List ℕ) where
   pub measurements-current : (j : ℕ) → j < registerWords → getD (measurementsRow current cumulative) (currentAt + j) 0 ≡ getD (words48 current) j 0

@@ -65,7 +65,7 @@ bootedOf image (accepted t a) = record { work = workAt image t a; status = bootS
 
 -- ---- the openings
 
--- "1 image not 1,240 words"
+-- "1 image not .. words": of another length
 abbrev pub sizeRule : List ℕ → Rule
 sizeRule image = refuses wrongImage (not (eqb (length image) imageWords))
 

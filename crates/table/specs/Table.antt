@@ -100,7 +100,7 @@ abbrev pub putFrom : ℕ → List Run → ℕ → Put
 putFrom n [] k = put 0 0
 putFrom n (r ∷ rs) k = cond (ltb k (n + r .count)) (r .store (k - n)) (putFrom (n + r .count) rs k)
 
--- the number of stores of a kind of work: 54, 15, 62, 1,241, 14, or 0 with nothing to store
+-- the number of stores of a kind of work, 0 with nothing to store; Figures has the numerals
 unfoldable pub numberOf : Kind → ℕ
 numberOf k = total (runsFor k [] [] [] [])
 

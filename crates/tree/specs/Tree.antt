@@ -9,7 +9,7 @@ use Rattle.layout.specs.Sizes.{handleWords, rootMark, retiredWord, internalFlag
 use Rattle.layout.specs.Words.{zeros}
 use Rattle.layout.specs.Below.{allBelow, countBelow, firstBelow}
 
--- a place for a node: all of it but the tag and the measurements. The handle is its five words; `blank` says that every word of the place is zero
+-- a place for a node: all of it but the tag, the measurements and the svn. The handle is its five words; `blank` says that every word of the place is zero
 pub record Place : Type 0 where
   pub used : Bool
   pub blank : Bool
