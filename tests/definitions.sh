@@ -23,11 +23,34 @@ make_scratch
 # The value of a line 'KEY: ..' of an edit.
 value() { sed -n "s/^$1: //p" "$2"; } # KEY EDIT
 
-# Makes a copy of the tree in which the definition is wrong.
+# The crates that rest on one, itself included.
+above() { # CRATE
+    awk -v crate="$1" '
+        { sub(/#.*/, "") }
+        /:/ { name = $0; sub(/:.*/, "", name); sub(/^[^:]*:/, ""); rests[name] = $0 }
+        END {
+            found[crate] = more = 1
+            while (more) {
+                more = 0
+                for (name in rests) {
+                    n = split(rests[name], under, " ")
+                    for (i = 1; i <= n; i++)
+                        if (!(name in found) && under[i] in found) found[name] = more = 1
+                }
+            }
+            for (name in found) print name
+        }' crates.txt
+}
+
+# Makes a copy of the tree in which the definition is wrong. What is built of the crates beneath it is lent, and what
+# rests on it is not there, since it has to be proved anew.
 copy() { # EDIT TREE
-    mkdir -p "$2/target"
+    local rlib
+    mkdir -p "$2/target/rlib"
     cp -R crates crates.txt "$2/"
-    cp -R target/rlib target/stamp "$2/target/"
+    cp -R target/stamp "$2/target/"
+    ln -s "$PWD"/target/rlib/* "$2/target/rlib/"
+    for rlib in $(above "$(value file "$1" | cut -d/ -f2)"); do rm -f "$2/target/rlib/$rlib.rlib" "$2/target/stamp/$rlib"; done
     OLD=$(value old "$1") NEW=$(value new "$1") awk '
         { text = text $0 "\n" }
         END {
