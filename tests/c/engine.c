@@ -1,10 +1,11 @@
 /*
  * Calls the engine of include/waggleloft.h from C: every cut of a stash and of an
  * extension, every refusal, what a boot, a stash and an extension measure, the
- * nodes' svn, works of other lengths, and works with damaged words. What a store has to do is computed here
- * from a table of the kinds of work (KINDS), not asked of the engine. Every
- * buffer is on the heap with its exact length, so that valgrind sees a byte too
- * many. Prints a line for each check that failed and, last, 'N passed, M failed'.
+ * nodes' svn, works of other lengths, and works with damaged words. What a store
+ * has to do is computed here from a table of the kinds of work (KINDS), not asked
+ * of the engine. Every buffer is on the heap with its exact length, so that
+ * valgrind sees a byte too many. Prints a line for each check that failed and,
+ * last, 'N passed, M failed'.
  */
 #include "waggleloft.h"
 
