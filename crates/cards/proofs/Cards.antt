@@ -1,7 +1,7 @@
 -- Bench cards *1 to *9 and 10 hold. Assumes nothing.
 use mathlib.Core.Path.{_≡_, refl, _∙_}
 use mathlib.Core.Logic.{⊎-elim}
-use Prim.Native.Nat.{ℕ}
+use Prim.Native.Nat.{ℕ, _-_}
 use native.Mathlib.Omega.{arith}
 use mathlib.Core.Bool.{false}
 use mathlib.Core.List.{List}
@@ -50,7 +50,7 @@ cards =
       card9 = λ image r s q. (λ e. accepts image r q s (omega arith), λ e. declines image r q s e);
       images9 = λ k l h. (serving k l h, used-count k l h);
       accepted9 =
-          accepts (imageWith 23) zeroStash zero-stash (serving 23 (omega arith) (omega arith)) (omega (arith, used-count 23 (omega arith) (omega arith)));
-      declined9 = declines (imageWith 24) zeroStash zero-stash (serving 24 (omega arith) (omega arith)) (used-count 24 (omega arith) (omega arith));
+          accepts (imageWith (nodeCount - 1)) zeroStash zero-stash (serving (nodeCount - 1) (omega arith) (omega arith)) (omega (arith, used-count (nodeCount - 1) (omega arith) (omega arith)));
+      declined9 = declines (imageWith nodeCount) zeroStash zero-stash (serving nodeCount (omega arith) (omega arith)) (used-count nodeCount (omega arith) (omega arith));
       card10 = disabled-output ∙ unfold answerOf checksumOf zeros in refl;
     }

@@ -82,18 +82,18 @@ pub record Cards : Type 0 where
       → Declined (openRequest image r) 2 × (le32 (openRequest image r .work .answer) 0 ≡ 0xFFFFFFFE)
   -- *5 "Code 0, no bytes: 0."
   pub card5 : checksumOf 0 [] ≡ 0
-  -- *6 "Images of .. words: 1.", of 1,239 and 1,241 since document 02, §7: every such image
-  pub card6 : (image : List ℕ) → (length image ≡ 1239) ⊎ (length image ≡ 1241) → GivesOne image
+  -- *6 "Images of .. words: 1.", of 1,519 and 1,521 since document 02, §8: every such image
+  pub card6 : (image : List ℕ) → (length image ≡ 1519) ⊎ (length image ≡ 1521) → GivesOne image
   -- *7 "Root's word 0: 0x00FF0001.": word 400 after all stores of any accepted cold boot
   pub card7 : (before : List ℕ) (x : BootInputs) → bootNumber (openColdBoot before x .status) ≡ 0 → getD (coldBooted before x) 400 0 ≡ 0x00FF0001
   -- *8 "A used node that is its own parent: not well formed.": in every image; and one such image
   pub card8 : (image : List ℕ) (i : ℕ) → i < nodeCount → treeIn image i .used ≡ true → treeIn image i .parent ≡ i → wellFormed nodeCount (treeIn image) ≡ false
   pub image8 : (treeIn ownParentImage 1 .used ≡ true) × (treeIn ownParentImage 1 .parent ≡ 1) × (wellFormed nodeCount (treeIn ownParentImage) ≡ false)
-  -- *9 "23 nodes used: stash accepted; 24: dpe result 1.": every such image and request; and two such images and a request
+  -- *9 ".. nodes used: stash accepted; ..: dpe result 1.", 31 and 32 since document 02, §8: every such image and request; and two such images and a request
   pub card9 : (image : List ℕ) (r : Request) → Serving image → StashRequest r
-      → (usedNodes image ≡ 23 → Accepted (openRequest image r)) × (usedNodes image ≡ 24 → Declined (openRequest image r) 1)
-  pub images9 : (k : ℕ) → 0 < k → k ≤ 24 → Serving (imageWith k) × (usedNodes (imageWith k) ≡ k)
-  pub accepted9 : Accepted (openRequest (imageWith 23) zeroStash)
-  pub declined9 : Declined (openRequest (imageWith 24) zeroStash) 1
+      → (usedNodes image ≡ 31 → Accepted (openRequest image r)) × (usedNodes image ≡ 32 → Declined (openRequest image r) 1)
+  pub images9 : (k : ℕ) → 0 < k → k ≤ 32 → Serving (imageWith k) × (usedNodes (imageWith k) ≡ k)
+  pub accepted9 : Accepted (openRequest (imageWith 31) zeroStash)
+  pub declined9 : Declined (openRequest (imageWith 32) zeroStash) 1
   -- 10 "Program, input `4C 42 53 44 DB FE FF FF`": twelve zero bytes since document 02, §11
   pub card10 : programOutput (0x4C ∷ 0x42 ∷ 0x53 ∷ 0x44 ∷ 0xDB ∷ 0xFE ∷ 0xFF ∷ 0xFF ∷ []) ≡ zeros 12

@@ -3,10 +3,10 @@ use mathlib.Core.Path.{_≡_}
 use Rattle.layout.specs.Sizes.{nodeCount, nodeWords, registerCount, registerWords, markAt, attestationAt, secretAt, registersAt, nodesAt, imageWords, registerAt, currentRegister, journeyRegister, stashRegister, extendFirst, extendLast, tagAt, handleAt, handleWords, flagsAt, currentAt, cumulativeAt, typeAt, localityAt, svnAt, rootMark, rootType, answerMax}
 
 pub record ImageFigures : Type 0 where
-  -- "the image 1,240" words (document 02, §7)
-  pub image : imageWords ≡ 1240
-  -- "24 measurement nodes"; "a node is 35 words" (document 02, §7)
-  pub nodes : nodeCount ≡ 24
+  -- "the image is 1,520 words" (document 02, §8)
+  pub image : imageWords ≡ 1520
+  -- "thirty-two nodes" (document 02, §8); "a node is 35 words" (§7)
+  pub nodes : nodeCount ≡ 32
   pub nodeSize : nodeWords ≡ 35
   -- "PCR0 to PCR31, 12 words each"
   pub registers : registerCount ≡ 32

@@ -57,7 +57,7 @@ wrongRegister = 12
 abbrev pub attestationOff : ℕ
 attestationOff = 13
 
--- the dpe results: an accepted stash 0, "1 if all 24 nodes are used", "2 if attestation is off"
+-- the dpe results: an accepted stash 0, "1 if all .. nodes are used", "2 if attestation is off"
 abbrev pub dpeAccepted : ℕ
 dpeAccepted = 0
 

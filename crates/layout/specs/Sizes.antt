@@ -4,9 +4,9 @@ use Prim.Native.Nat.{ℕ, _+_, _*_}
 use mathlib.Core.Bool.{Bool, _&&_}
 use lib.Dec.{leb}
 
--- "24 measurement nodes", of 34 words; since document 02, §7, "a node is 35 words"
+-- "measurement nodes": 24 of 34 words in document 01; since document 02, "raise 24 to 32" (§8), "a node is 35 words" (§7)
 abbrev pub nodeCount : ℕ
-nodeCount = 24
+nodeCount = 32
 
 abbrev pub nodeWords : ℕ
 nodeWords = 35

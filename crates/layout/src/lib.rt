@@ -10,7 +10,7 @@ pub const REGISTERS: usize = 32;
 
 pub const REGISTER_WORDS: usize = 12;
 
-pub const NODES: usize = 24;
+pub const NODES: usize = 32;
 
 pub const NODE_WORDS: usize = 35;
 

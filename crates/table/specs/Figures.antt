@@ -9,7 +9,7 @@ pub record StoreFigures : Type 0 where
   pub stash : (s : StashAt) → numberOf (Stash s) ≡ 54
   pub disabling : numberOf Disabling ≡ 15
   pub update : (root : ℕ) → numberOf (Update root) ≡ 62
-  pub coldBoot : numberOf ColdBoot ≡ 1241
+  pub coldBoot : numberOf ColdBoot ≡ 1521
   -- document 02, §1
   pub extension : (r : ℕ) → numberOf (Extension r) ≡ 14
   pub nothing : numberOf Nothing ≡ 0

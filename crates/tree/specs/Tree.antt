@@ -53,7 +53,7 @@ isRoot p = p .used && eqb (p .parent) rootMark
 unfoldable pub rootOk : Place → Bool
 rootOk p = eqb (p .flags) internalFlag && eqb (p .type) rootType
 
--- of any other used node: "no other has" bit 31, "flag bits 30 to 0 are zero", "parent is a used node below index 24"
+-- of any other used node: "no other has" bit 31, "flag bits 30 to 0 are zero", "parent is a used node below index" n
 unfoldable pub childOk : ℕ → Tree → ℕ → Bool
 childOk n t i = eqb (t i .flags) 0 && (ltb (t i .parent) n && t (t i .parent) .used)
 
@@ -65,7 +65,7 @@ handleOk p = sameHandle (p .handle) defaultWords || sameHandle (p .handle) retir
 unfoldable pub placeOk : ℕ → Tree → ℕ → Bool
 placeOk n t i = cond (t i .used) (handleOk (t i) && cond (isRoot (t i)) (rootOk (t i)) (childOk n t i)) (t i .blank)
 
--- "the parents lead to the root in at most 23 steps": from node i in at most s steps
+-- "the parents lead to the root in at most" n - 1 "steps": from node i in at most s steps
 unfoldable pub leads : ℕ → Tree → ℕ → ℕ → Bool
 leads n t zero i = isRoot (t i)
 leads n t (suc s) i = isRoot (t i) || (ltb (t i .parent) n && leads n t s (t i .parent))
