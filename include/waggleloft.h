@@ -56,10 +56,10 @@ extern "C" {
 
 /*
  * Words of the unit's image. The number may grow with a later version; an image
- * of another length is refused with WAGGLELOFT_WRONG_IMAGE, also one of 1,216
- * words from before the nodes had an svn.
+ * of another length is refused with WAGGLELOFT_WRONG_IMAGE. One of an earlier
+ * version, of 1,216 or 1,240 words, is refused so and not carried over.
  */
-#define WAGGLELOFT_IMAGE_WORDS 1240
+#define WAGGLELOFT_IMAGE_WORDS 1520
 
 /*
  * Words of a work: every length of a work that is passed below is this one.
@@ -165,7 +165,7 @@ size_t waggleloft_sha384_state_bytes(void);
  * the index of the node that it hangs on; 0xFF of the root, which stands for the
  * runtime.
  */
-#define WAGGLELOFT_NODES 24
+#define WAGGLELOFT_NODES 32
 #define WAGGLELOFT_NODES_AT 400
 #define WAGGLELOFT_NODE_WORDS 35
 

@@ -76,10 +76,10 @@ expect 'a plain step that fails counts once' '0 1' "$(counted plain 3 '')"
 
 # ---- the sizes that scripts take from the header
 
-expect 'words of the image, nodes, where they stand, words of a node' '1240 24 400 35' \
+expect 'words of the image, nodes, where they stand, words of a node' '1520 32 400 35' \
     "$IMAGE_WORDS $NODES $NODES_AT $NODE_WORDS"
 expect 'digest and svn of a node' '8 34' "$NODE_CURRENT $NODE_SVN"
-expect 'stores of a cold boot, a stash, an extension, an update' '1241 54 14 62' \
+expect 'stores of a cold boot, a stash, an extension, an update' '1521 54 14 62' \
     "$COLD_STORES $STASH_STORES $EXTENSION_STORES $UPDATE_STORES"
 expect 'a size that the header has not' refused "$(header NODE >"$work/log" && echo taken || echo refused)"
 

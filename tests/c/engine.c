@@ -1,11 +1,11 @@
 /*
  * Calls the engine of include/waggleloft.h from C: every cut of a stash and of an
  * extension, every refusal, what a boot, a stash and an extension measure, the
- * nodes' svn, works of other lengths, and works with damaged words. What a store
- * has to do is computed here from a table of the kinds of work (KINDS), not asked
- * of the engine. Every buffer is on the heap with its exact length, so that
- * valgrind sees a byte too many. Prints a line for each check that failed and,
- * last, 'N passed, M failed'.
+ * nodes' svn, lists of every node, works of other lengths, and works with damaged
+ * words. What a store has to do is computed here from a table of the kinds of work
+ * (KINDS), not asked of the engine. Every buffer is on the heap with its exact
+ * length, so that valgrind sees a byte too many. Prints a line for each check that
+ * failed and, last, 'N passed, M failed'.
  */
 #include "waggleloft.h"
 
@@ -36,8 +36,12 @@ enum { KIND_IN = 0, FIRST_IN = 1, SECOND_IN = 3, POSITION_IN = 5, LENGTH_IN = 7,
 enum { HANDLE = 2, CURRENT = WAGGLELOFT_NODE_CURRENT, CUMULATIVE = 20, TYPE = WAGGLELOFT_NODE_TYPE,
        LOCALITY = WAGGLELOFT_NODE_LOCALITY, SVN = WAGGLELOFT_NODE_SVN };
 
+/* The first word of a used node that hangs on that one; the root names no node. */
+#define USED_ON(parent) ((uint32_t)(parent) << 16 | 1)
+#define NO_PARENT 0xFF
+
 /* Stores of each kind of work, as the papers give them. */
-enum { DISABLING_STORES = 15, STASH_STORES = 54, UPDATE_STORES = 62, COLD_STORES = 1241, EXTENSION_STORES = 14 };
+enum { DISABLING_STORES = 15, STASH_STORES = 54, UPDATE_STORES = 62, COLD_STORES = 1521, EXTENSION_STORES = 14 };
 
 /* ---- the kinds of work ---- */
 
@@ -471,6 +475,7 @@ static void check_image_lengths(void)
     check(all, "images of other lengths get 1, and nothing is written");
     check(image_refused(IMAGE - 1) && image_refused(IMAGE + 1), "card 6: images of one word less and one more get 1");
     check(image_refused(1216), "an image from before the nodes had an svn, of 1,216 words, gets 1");
+    check(image_refused(1240), "an image of 24 nodes, of 1,240 words, gets 1");
 }
 
 /* ---- a boot's inputs ---- */
@@ -662,9 +667,29 @@ static void check_measured_boots(void)
     fill_bytes(manifest, DIGEST);
 }
 
-/* ---- extensions ---- */
+/* ---- lists ---- */
 
 static void set_digest(uint8_t byte) { memset(request + 8, byte, DIGEST); }
+
+/* What the stash of node i asks for: type and svn of its own; the digest is 48 times the byte i. */
+#define TYPE_OF(i) (UINT32_C(0x41424300) + (i))
+#define SVN_OF(i) (UINT32_C(0x01020304) * (i))
+
+/* A cold boot and stashes until so many nodes are used: a chain, each node hanging on the one before. */
+static bool filled(uint32_t nodes)
+{
+    bool all = true;
+    fresh();
+    for (uint32_t i = 1; i < nodes; i++) {
+        put_number(4, TYPE_OF(i));
+        set_digest((uint8_t)i);
+        put_number(56, SVN_OF(i));
+        all = open_stash() && run(SIZE_MAX) == STASH_STORES && all;
+    }
+    return all;
+}
+
+/* ---- extensions ---- */
 
 /*
  * An extension of the register by 48 times that byte, run to its end: it then is that digest, and all else as before.
@@ -776,13 +801,7 @@ static void check_extensions_and_nodes(void)
         all = ask(WAGGLELOFT_STASH_MEASUREMENT, 60) == WAGGLELOFT_NOT_WELL_FORMED && extends_to(4, 0x66, EXTENDED_ONCE) && all;
     }
     check(all, "an extension on nodes that are not well formed");
-    const uint8_t full[12] = {0xFF, 0xFF, 0xFF, 0xFF, 0, 0, 0, 0, 1};
-    all = true;
-    fresh();
-    for (size_t i = 1; i < NODES; i++)
-        all = open_stash() && run(SIZE_MAX) == KINDS[STASH].stores && all;
-    all = open_stash() && waggleloft_left(work, WORK) == 0 && answers(full, sizeof full) && all;
-    check(all && extends_to(4, 0x66, EXTENDED_ONCE) && extends_to(30, 0x66, EXTENDED_ONCE), "an extension with all nodes used");
+    check(filled(NODES) && extends_to(4, 0x66, EXTENDED_ONCE) && extends_to(30, 0x66, EXTENDED_ONCE), "an extension with all nodes used");
 }
 
 /* The words of an extension's work just opened. */
@@ -942,25 +961,20 @@ static void check_words_of_stash(void)
     check(open_svn(0x04030201) && work_same(), "the words of a stash: kind 2, node and old holder, PCR31, the node, its answer");
 }
 
-/* Every node used, each with an svn of its own; an update leaves them. */
-static void check_svn_of_every_node(void)
-{
-    bool all = true;
-    fresh();
-    for (uint32_t i = 1; i < NODES; i++)
-        all = stashes(0x01020304 * i) && all;
-    all = open_update() && run(SIZE_MAX) == UPDATE_STORES && all;
-    for (uint32_t i = 0; i < NODES; i++)
-        all = image[NODE(i) + SVN] == 0x01020304 * i && all;
-    check(all, "every node has its svn, also after an update");
-}
-
 /* The nodes are not well formed: a stash gets 11, and an update boot of either verdict would disable. */
 static bool malformed(void)
 {
     remember();
     return ask(WAGGLELOFT_STASH_MEASUREMENT, 60) == WAGGLELOFT_NOT_WELL_FORMED && image_same() && work_same() &&
            would(true, WAGGLELOFT_DISABLED) && would(false, WAGGLELOFT_DISABLED);
+}
+
+/* An update boot switches attestation off. */
+static bool switches_off(void)
+{
+    uint32_t outcome = 99;
+    return update_boot(true, &outcome) == WAGGLELOFT_OK && outcome == WAGGLELOFT_DISABLED && run(SIZE_MAX) == DISABLING_STORES &&
+           image[1] == 0 && erased();
 }
 
 /* A free node with one word that is not zero. */
@@ -985,11 +999,8 @@ static void check_free_svn(void)
     }
     check(svns, "a free node with an svn is not well formed");
     check(others, "a free node is zero in every word");
-    uint32_t outcome = 99;
     image[NODE(NODES - 1) + SVN] = 1;
-    check(update_boot(true, &outcome) == WAGGLELOFT_OK && outcome == WAGGLELOFT_DISABLED && run(SIZE_MAX) == DISABLING_STORES &&
-              image[1] == 0 && erased(),
-          "and an update boot switches attestation off");
+    check(switches_off(), "and an update boot switches attestation off");
 }
 
 /* Of a used node any svn is fine, the root's too; an update leaves it. */
@@ -1025,6 +1036,113 @@ static void check_cut_svn(void)
     check(outcome_of_cut(STASH_STORES - 1) == WAGGLELOFT_DISABLED && image[1] == 0, "card 12: off after store 53");
     check(outcome_of_cut(STASH_STORES) == WAGGLELOFT_UPDATED && image[1] == 1 && image[NODE(1) + SVN] == 0x04030201,
           "card 12: on after store 54, with the svn in the list");
+}
+
+/* ---- lists of every node ---- */
+
+/* No node is free: a stash is declined with 1, and nothing is stored. */
+static bool full(void)
+{
+    const uint8_t declined[12] = {0xFF, 0xFF, 0xFF, 0xFF, 0, 0, 0, 0, 1};
+    remember();
+    return open_stash() && waggleloft_left(work, WORK) == 0 && answers(declined, sizeof declined) && image_same();
+}
+
+static void check_last_node(void)
+{
+    bool one_free = filled(NODES - 1) && image[NODE(NODES - 1)] == 0;
+    check(one_free && open_stash() && run(SIZE_MAX) == STASH_STORES && image[NODE(NODES - 1)] == USED_ON(NODES - 2),
+          "card 9: with one node free a stash takes it, the last node");
+    check(full(), "card 9: with none free a stash is declined with 1, and nothing is stored");
+}
+
+/* What a reader finds at node i of a filled list. */
+static bool legible(uint32_t i)
+{
+    const uint32_t *node = image + NODE(i);
+    bool all = node[0] == USED_ON(i - 1) && node[TYPE] == TYPE_OF(i) && node[LOCALITY] == 7 && node[SVN] == SVN_OF(i);
+    for (size_t k = 0; k < 12; k++)
+        all = all && node[CURRENT + k] == UINT32_C(0x01010101) * i;
+    return all;
+}
+
+/* The longest way to the root: a chain through every node is well formed, and an update leaves it. */
+static void check_longest_chain(void)
+{
+    bool all = filled(NODES) && would(false, WAGGLELOFT_KEPT) && open_update() && run(SIZE_MAX) == UPDATE_STORES && full();
+    check(all, "a chain through every node is kept and updated");
+    all = image[NODE(0)] == USED_ON(NO_PARENT) && image[NODE(0) + SVN] == 0;
+    for (uint32_t i = 1; i < NODES; i++)
+        all = legible(i) && all;
+    check(all, "every node has its parent, type, digest, caller's number and svn, also after an update");
+}
+
+/* Every node changes its place, node 0 with the last and so on; the parents name the new places. */
+static void mirror(void)
+{
+    remember();
+    for (uint32_t i = 0; i < NODES; i++) {
+        const uint32_t *from = image_before + NODE(NODES - 1 - i);
+        uint32_t parent = from[0] >> 16;
+        memcpy(image + NODE(i), from, NODE_WORDS * sizeof *from);
+        if ((from[0] & 0xFFFF) == 1 && parent != NO_PARENT)
+            image[NODE(i)] = USED_ON(NODES - 1 - parent);
+    }
+}
+
+/* A work on the mirrored list makes the mirror of what it makes on the list itself. */
+static bool mirrored(uint32_t nodes, uint32_t kind)
+{
+    uint32_t *expected = lent(IMAGE, sizeof *expected);
+    bool holds = filled(nodes) && KINDS[kind].open() && run(SIZE_MAX) == KINDS[kind].stores;
+    mirror();
+    memcpy(expected, image, IMAGE * sizeof *image);
+    holds = filled(nodes) && holds;
+    mirror();
+    holds = holds && KINDS[kind].open() && run(SIZE_MAX) == KINDS[kind].stores && memcmp(image, expected, IMAGE * sizeof *image) == 0;
+    free(expected);
+    return holds;
+}
+
+static void check_mirrored(void)
+{
+    check(mirrored(NODES, UPDATE) && image[NODE(NODES - 1)] == USED_ON(NO_PARENT) && image[NODE(0)] == USED_ON(1) &&
+              work[FIRST_IN] == NODES - 1 && full(),
+          "the root at the last node, each parent the next higher: an update renews the root there");
+    check(mirrored(NODES - 1, STASH) && image[NODE(0)] == USED_ON(1), "and a stash takes node 0, the free one");
+}
+
+/* Node `index` of the list in hand hangs on `parent`: not well formed; then it is as before. */
+static bool malformed_on(uint32_t index, uint32_t parent)
+{
+    uint32_t before = image[NODE(index)];
+    image[NODE(index)] = USED_ON(parent);
+    bool holds = malformed();
+    image[NODE(index)] = before;
+    return holds;
+}
+
+/* With every node used, and with one free. */
+static void check_wrong_ways(void)
+{
+    static const uint32_t parents[] = {NODES, NODES + 1, NO_PARENT - 1, NO_PARENT, NO_PARENT + 1, 0x1FF, 0x8000, 0xFFFF};
+    bool cycles = true, past = true;
+    for (uint32_t nodes = NODES - 1; nodes <= NODES; nodes++) {
+        past = filled(nodes) && past;
+        for (uint32_t index = 1; index < nodes; index++) {
+            cycles = malformed_on(index, nodes - 1) && cycles;
+            for (size_t i = 0; i < COUNT(parents); i++)
+                past = malformed_on(index, parents[i]) && past;
+        }
+    }
+    check(cycles, "a cycle of the last nodes, of each length from 1 on, is not well formed");
+    check(past, "nor is a parent past the last node, at any node");
+    check(filled(NODES - 1) && malformed_on(NODES - 2, NODES - 1), "nor is one that is free");
+    image[NODE(NODES - 3)] = USED_ON(NODES - 2);
+    check(switches_off(), "an update boot on a cycle switches attestation off");
+    bool all = filled(NODES);
+    image[NODE(NODES - 1)] = USED_ON(NODES);
+    check(all && switches_off(), "and so on a parent past the last node");
 }
 
 /* ---- refused requests and damaged works ---- */
@@ -1166,10 +1284,13 @@ int main(void)
     check_no_kinds();
     check_stashed_svn();
     check_words_of_stash();
-    check_svn_of_every_node();
     check_free_svn();
     check_used_svn();
     check_cut_svn();
+    check_last_node();
+    check_longest_chain();
+    check_mirrored();
+    check_wrong_ways();
     check_refused_requests();
     check_damaged_works();
 

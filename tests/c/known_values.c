@@ -123,8 +123,8 @@ static void check_names(void)
         const char *name;
         uint64_t found, expected;
     } names[] = {
-        {"words of an image", WAGGLELOFT_IMAGE_WORDS, 1240},
-        {"nodes", WAGGLELOFT_NODES, 24},
+        {"words of an image", WAGGLELOFT_IMAGE_WORDS, 1520},
+        {"nodes", WAGGLELOFT_NODES, 32},
         {"the nodes' first word", WAGGLELOFT_NODES_AT, 400},
         {"words of a node", WAGGLELOFT_NODE_WORDS, 35},
         {"the nodes fill the image", WAGGLELOFT_NODES_AT + WAGGLELOFT_NODES * WAGGLELOFT_NODE_WORDS, WAGGLELOFT_IMAGE_WORDS},

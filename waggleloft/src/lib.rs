@@ -44,8 +44,8 @@ pub use running::Sha384;
 pub use work::{BootInputs, Outcome, Request, Work};
 
 /// Words of the unit's image. It may grow with a later version; an image of another length is refused with
-/// [`Refusal::WrongImage`], also one of 1,216 words from before the nodes had an svn.
-pub const IMAGE_WORDS: usize = 1240;
+/// [`Refusal::WrongImage`]. One of an earlier version, of 1,216 or 1,240 words, is refused so and not carried over.
+pub const IMAGE_WORDS: usize = 1520;
 /// Words of a work. It may grow with a later version.
 pub const WORK_WORDS: usize = 106;
 /// The longest answer, in bytes: a buffer of so many bytes takes every answer.
@@ -82,7 +82,7 @@ pub const EXTEND_LAST: u32 = 30;
 /// }
 /// # assert_eq!(svns(&[0; IMAGE_WORDS]).count(), 0);
 /// ```
-pub const NODES: usize = 24;
+pub const NODES: usize = 32;
 /// The first word of the nodes.
 pub const NODES_AT: usize = 400;
 /// Words of a node.

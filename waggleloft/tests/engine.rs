@@ -7,7 +7,7 @@ use waggleloft::{
 };
 
 /// Stores of each kind of work.
-const COLD: usize = 1241;
+const COLD: usize = 1521;
 const STASH: usize = 54;
 const UPDATE: usize = 62;
 const DISABLING: usize = 15;
@@ -77,10 +77,15 @@ fn open(work: &mut Work, image: &[u32], code: u32, bytes: &[u8]) -> Result<(), R
     work.open_request(image, &request)
 }
 
-/// A stash of type "HOUR", a digest of 48 bytes 0x66 and that svn, with its checksum.
-fn stash(svn: u32) -> Vec<u8> {
-    let arguments = [b"HOUR", &[0x66; 48][..], &svn.to_le_bytes()].concat();
+/// A stash of that type, a digest of 48 equal bytes and that svn, with its checksum.
+fn stash_of(kind: [u8; 4], byte: u8, svn: u32) -> Vec<u8> {
+    let arguments = [&kind, &[byte; 48][..], &svn.to_le_bytes()].concat();
     sealed(code::STASH_MEASUREMENT, &arguments)
+}
+
+/// A stash of type "HOUR", a digest of 48 bytes 0x66 and that svn.
+fn stash(svn: u32) -> Vec<u8> {
+    stash_of(*b"HOUR", 0x66, svn)
 }
 
 fn open_svn(work: &mut Work, image: &[u32], svn: u32) -> Result<(), Refusal> {
@@ -469,18 +474,149 @@ fn a_stash_keeps_its_svn() {
     assert!(image[node(2)..].iter().all(|&word| word == 0));
 }
 
-/// A list of every node, each with an svn of its own.
-#[test]
-fn every_node_has_its_svn() {
-    let svn = |index: usize| 0x0102_0304_u32.wrapping_mul(index as u32);
+/// The first word of a used node that hangs on that one; the root names no node.
+fn used_on(parent: usize) -> u32 {
+    u32::try_from(parent).expect("an index") << 16 | 1
+}
+
+const NO_PARENT: usize = 0xFF;
+
+/// Type, byte of the digest and svn of the stash that takes that node.
+fn fields_of(index: usize) -> (u32, u8, u32) {
+    let number = u32::try_from(index).expect("an index");
+    let byte = u8::try_from(index).expect("an index");
+    (0x4142_4300 + number, byte, 0x0102_0304 * number)
+}
+
+/// Makes all stores of the stash that takes that node.
+fn take(image: &mut [u32], index: usize) {
+    let (kind, byte, svn) = fields_of(index);
+    let bytes = stash_of(kind.to_le_bytes(), byte, svn);
+    let mut work = Work::new();
+    let opened = open(&mut work, image, code::STASH_MEASUREMENT, &bytes);
+    assert_eq!(opened, Ok(()), "node {index}");
+    assert_eq!(run(&mut work, image, usize::MAX), STASH);
+}
+
+/// A cold boot and stashes until so many nodes are used: a chain, each node hanging on the one before.
+fn filled(nodes: usize) -> Vec<u32> {
     let mut image = fresh();
-    for index in 1..NODES {
-        add(&mut image, svn(index));
+    for index in 1..nodes {
+        take(&mut image, index);
     }
+    image
+}
+
+/// No node is free: a stash has nothing to store, and its dpe result is 1.
+fn assert_full(image: &[u32]) {
+    let mut work = Work::new();
+    assert_eq!(open_stash(&mut work, image), Ok(()));
+    assert_eq!(work.left(), 0);
+    let mut answer = [0xEE; 12];
+    assert_eq!(work.answer(&mut answer), Ok(12));
+    assert_eq!(answer, [0xFF, 0xFF, 0xFF, 0xFF, 0, 0, 0, 0, 1, 0, 0, 0]);
+}
+
+/// A stash gets 11, and an update boot of either verdict switches attestation off.
+fn assert_malformed(image: &[u32], what: &str) {
+    let mut work = Work::new();
+    let opened = open_stash(&mut work, image);
+    assert_eq!(opened, Err(Refusal::NotWellFormed), "{what}");
+    for verdict in [false, true] {
+        let mut image = image.to_vec();
+        let outcome = work.open_update_boot(&image, &INPUTS, verdict);
+        assert_eq!(outcome, Ok(Outcome::Disabled), "{what}");
+        assert_eq!(run(&mut work, &mut image, usize::MAX), DISABLING);
+        assert_eq!(image[1], 0, "{what}: attestation");
+    }
+}
+
+/// Card 9.
+#[test]
+fn a_stash_takes_the_last_node_and_then_none() {
+    let mut image = filled(NODES - 1);
+    assert!(image[node(NODES - 1)..].iter().all(|&word| word == 0));
+    take(&mut image, NODES - 1);
+    assert_eq!(image[node(NODES - 1)], used_on(NODES - 2));
+    assert_full(&image);
+}
+
+/// The longest way to the root: every node has its parent, type, digest and svn, also after an update.
+#[test]
+fn a_chain_through_every_node() {
+    let mut image = filled(NODES);
+    let mut work = Work::new();
+    let kept = work.open_update_boot(&image, &INPUTS, false);
+    assert_eq!(kept, Ok(Outcome::Kept));
     update(&mut image);
-    let nodes = image[NODES_AT..].chunks_exact(NODE_WORDS);
-    let found: Vec<u32> = nodes.map(|node| node[NODE_SVN]).collect();
-    assert_eq!(found, (0..NODES).map(svn).collect::<Vec<u32>>());
+    assert_full(&image);
+    let mut nodes = image[NODES_AT..].chunks_exact(NODE_WORDS);
+    let root = nodes.next().expect("node 0");
+    assert_eq!((root[0], root[NODE_SVN]), (used_on(NO_PARENT), 0));
+    for (index, node) in (1..NODES).zip(&mut nodes) {
+        let (kind, byte, svn) = fields_of(index);
+        assert_eq!(node[0], used_on(index - 1), "node {index}");
+        assert_eq!(node[NODE_TYPE], kind, "node {index}");
+        let digest = &node[NODE_CURRENT..NODE_CURRENT + 12];
+        assert_eq!(digest, [u32::from_le_bytes([byte; 4]); 12], "node {index}");
+        assert_eq!(node[NODE_LOCALITY], 0, "node {index}");
+        assert_eq!(node[NODE_SVN], svn, "node {index}");
+    }
+    assert_eq!(nodes.next(), None);
+}
+
+/// The same image with every node at another place, node 0 at the last and so on; the parents name the new
+/// places.
+fn mirror(image: &[u32]) -> Vec<u32> {
+    let mut mirrored = image[..NODES_AT].to_vec();
+    for place in image[NODES_AT..].chunks_exact(NODE_WORDS).rev() {
+        let parent = (place[0] >> 16) as usize;
+        mirrored.extend(place);
+        if place[0] & 0xFFFF == 1 && parent != NO_PARENT {
+            let at = mirrored.len() - NODE_WORDS;
+            mirrored[at] = used_on(NODES - 1 - parent);
+        }
+    }
+    mirrored
+}
+
+/// The root may be the last node, with every parent at the next higher index. An update renews the root
+/// there, and a stash takes node 0 if that is the free one.
+#[test]
+fn a_chain_in_reversed_order() {
+    let mut image = filled(NODES);
+    let mut reversed = mirror(&image);
+    assert_eq!(reversed[node(NODES - 1)], used_on(NO_PARENT));
+    assert_eq!(reversed[node(0)], used_on(1));
+    assert_full(&reversed);
+    update(&mut image);
+    update(&mut reversed);
+    assert_eq!(reversed, mirror(&image));
+    let mut image = filled(NODES - 1);
+    let mut reversed = mirror(&image);
+    take(&mut image, NODES - 1);
+    take(&mut reversed, NODES - 1);
+    assert_eq!(reversed, mirror(&image));
+}
+
+/// With every node used, and with one free: the last nodes in a cycle, of each length, and a parent that
+/// is no used node.
+#[test]
+fn ways_that_do_not_lead_to_the_root() {
+    for nodes in [NODES - 1, NODES] {
+        let list = filled(nodes);
+        for index in 1..nodes {
+            let cycle = nodes - 1;
+            for parent in [cycle, NODES, NODES + 1, NO_PARENT + 1, 0xFFFF] {
+                let mut image = list.clone();
+                image[node(index)] = used_on(parent);
+                assert_malformed(&image, &format!("node {index} of {nodes} on {parent}"));
+            }
+        }
+    }
+    let mut image = filled(NODES - 1);
+    image[node(NODES - 2)] = used_on(NODES - 1);
+    assert_malformed(&image, "a parent that is free");
 }
 
 #[test]
@@ -488,15 +624,8 @@ fn a_free_node_is_zero_in_its_svn() {
     for index in 1..NODES {
         for svn in [1, 0x0100_0000, u32::MAX] {
             let mut image = fresh();
-            let mut work = Work::new();
             image[svn_at(index)] = svn;
-            assert_eq!(open_stash(&mut work, &image), Err(Refusal::NotWellFormed));
-            let kept = work.open_update_boot(&image, &INPUTS, false);
-            assert_eq!(kept, Ok(Outcome::Disabled), "node {index}");
-            let outcome = work.open_update_boot(&image, &INPUTS, true);
-            assert_eq!(outcome, Ok(Outcome::Disabled), "node {index}");
-            assert_eq!(run(&mut work, &mut image, usize::MAX), DISABLING);
-            assert_eq!(image[1], 0, "attestation");
+            assert_malformed(&image, &format!("node {index}"));
         }
     }
 }
@@ -536,10 +665,10 @@ fn a_stash_cut_at_its_last_stores() {
     }
 }
 
-/// An image from before the nodes had an svn, and those of one word less and one more.
+/// An image from before the nodes had an svn, one of 24 nodes, and those of one word less and one more.
 #[test]
 fn images_of_other_lengths() {
-    for length in [1216, IMAGE_WORDS - 1, IMAGE_WORDS + 1] {
+    for length in [1216, 1240, IMAGE_WORDS - 1, IMAGE_WORDS + 1] {
         let mut work = Work::new();
         open_stash(&mut work, &fresh()).expect("accepted");
         let before = work.clone();

@@ -15,7 +15,7 @@ fn macros(section: &str) -> Vec<(&'static str, u64)> {
     lines.collect()
 }
 
-/// `1240`, `UINT32_C(1)` or `UINT32_C(0x4243484B)`.
+/// `48`, `UINT32_C(1)` or `UINT32_C(0x4243484B)`.
 fn number(text: &str) -> u64 {
     let digits = match text.split_once('(') {
         Some((_, inner)) => inner.trim_end_matches(')'),
