@@ -2,3 +2,4 @@
 pub mod Tree
 pub mod Nodes
 pub mod Kinds
+pub mod Known
