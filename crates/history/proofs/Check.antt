@@ -2,30 +2,33 @@
 -- one with an extension, one with a stash. Assumes nothing.
 use mathlib.Core.Path.{_≡_, refl, sym, ap, _∙_}
 use Prim.Native.Nat.{ℕ, _+_, _-_, _*_}
-use mathlib.Core.Bool.{Bool, true, false, _&&_}
+use mathlib.Core.Bool.{Bool, true, false, not, _&&_}
 use mathlib.Core.List.{List, [], _∷_, _++_, map}
 use mathlib.Core.Option.{Option, none, some}
 use native.Mathlib.Omega.{arith}
 use lib.Dec.{eqb}
 use lib.ListN.{length, getD, set, take, drop, replicate}
 use lib.Seq.{getD-drop}
-use Rattle.layout.specs.Sizes.{imageWords, attestationAt, registersAt, registerCount, registerWords, currentRegister, journeyRegister, extendFirst, extendable, nodesAt, nodeWords, nodeAt, svnAt}
+use Rattle.layout.specs.Sizes.{imageWords, attestationAt, registersAt, registerCount, registerWords, currentRegister, journeyRegister, extendFirst, extendable, nodeCount, nodesAt, nodeWords, nodeAt, svnAt}
 use Rattle.layout.specs.Words.{bytes4, words48, wordsAt, tab, zeros, flat}
-use Rattle.layout.specs.Below.{allBelow, countBelow, firstFrom}
+use Rattle.layout.specs.Below.{allBelow}
 use Rattle.message.specs.Checksum.{checksumOf}
 use Rattle.sha384.specs.Entries.{extended}
-use Rattle.tree.specs.Tree.{sameHandle, hasHandle, isRoot, rootOk, childOk, handleOk, placeOk, leads, leadsIfUsed, wellFormed, nodeWith, lowestFree}
-use Rattle.nodes.specs.Record.{nodeRow}
+use Rattle.layout.proofs.Bounded.{first-on, first-here}
+use Rattle.tree.specs.Tree.{defaultWords, wellFormed, nodeWith, lowestFree}
+use Rattle.tree.proofs.WellFormed.{Formed, formed-true, holder-found}
+use Rattle.nodes.specs.Record.{Node, nodeRow, placeRow, retiredHandle, withHandle, treeOf}
 use Rattle.table.specs.Table.{numberOf}
 use Rattle.work.specs.Entries.{leftOf}
 use Rattle.table.specs.declared.Kind.the-variants.{Disabling, Stash, Update, Extension}
-use Rattle.opening.specs.Tasks.{requestOf, BootInputs, bootOf, Task}
-use Rattle.opening.specs.Rules.{wrongChecksum, extendCode, stashCode, inputsOk}
-use Rattle.opening.specs.Values.{extendedByBoot}
+use Rattle.opening.specs.Tasks.{Request, requestOf, BootInputs, bootOf, Measurement, Task, stash, coldBoot}
+use Rattle.opening.specs.Rules.{wrongChecksum, extendCode, stashCode, measurementIn, answerOf, inputsOk}
+use Rattle.opening.specs.Values.{extendedByBoot, childNode, rootNode}
 use Rattle.opening.specs.Openings.{openColdBoot, bootNumber}
 use Rattle.history.specs.Calls.{Call, request, updateBoot, store, powerCut, Hand, Machine, Step, step, run}
-use Rattle.history.specs.Ledger.{Job, Ledger, nextChain, stateOf, chainOf, nodeRows, viewOf, letGo, ledgerStep, firstLedger}
+use Rattle.history.specs.Ledger.{Job, Ledger, changed, nextChain, stateOf, chainOf, nodeRows, viewOf, tears, letGo, ledgerStep, firstLedger}
 use Rattle.history.specs.Demand.{Shut, wasAccepted, bootEnded, endsBoot, afterColdBoot}
+use Rattle.history.proofs.Good.{formed-cold}
 use Rattle.history.proofs.Ground.{isBoot}
 use Rattle.history.proofs.Sim.{Inv, empty, done, going, Together, carried-left, sim, sim-run}
 use Rattle.history.proofs.Demand.{cold-start, demand3}
@@ -86,15 +89,59 @@ svn = 0x04030201
 stash-arguments : List ℕ
 stash-arguments = bytes4 0x52554F48 ++ (digest ++ bytes4 svn)
 
+stash-request : Request
+stash-request = requestOf stashCode (bytes4 (checksumOf stashCode stash-arguments) ++ stash-arguments) 5 [] false
+
 pub stash-calls : List Call
-stash-calls =
-    request (requestOf stashCode (bytes4 (checksumOf stashCode stash-arguments) ++ stash-arguments) 5 [] false)
-    ∷ replicate (numberOf (Stash (record { node = 1; holder = 0 }))) store
+stash-calls = request stash-request ∷ replicate (numberOf (Stash (record { node = 1; holder = 0 }))) store
 
 -- the registers that a cold boot leaves
 pub coldRegisters : List (List ℕ)
 coldRegisters =
     set (set (replicate registerCount (zeros 48)) currentRegister (extendedByBoot (zeros 48) inputs)) journeyRegister (extendedByBoot (zeros 48) inputs)
+
+-- ---- that stash in the ledger, by the laws of the tree: no place is gone through one by one
+
+coldNodes : List (Option Node)
+coldNodes = set (replicate nodeCount none) 0 (some (rootNode (extendedByBoot (zeros 48) inputs)))
+
+cold-formed : Formed nodeCount (treeOf coldNodes) 0 0
+unfolding coldNodes
+cold-formed = formed-cold nodeCount (omega arith) (extendedByBoot (zeros 48) inputs)
+
+cold-well : wellFormed nodeCount (treeOf coldNodes) ≡ true
+cold-well = formed-true nodeCount (omega arith) (treeOf coldNodes) 0 0 cold-formed
+
+cold-holder : nodeWith nodeCount (treeOf coldNodes) defaultWords ≡ 0
+cold-holder = holder-found nodeCount (omega arith) (treeOf coldNodes) 0 0 cold-formed
+
+cold-free : lowestFree nodeCount (treeOf coldNodes) ≡ 1
+unfolding lowestFree coldNodes
+cold-free =
+    first-on (λ i. not (treeOf coldNodes i .used)) nodeCount 0 (omega arith) refl ∙ first-here (λ i. not (treeOf coldNodes i .used)) nodeCount 1 (omega arith) refl
+
+measured : Measurement
+measured = measurementIn stash-request
+
+stashJob : Job
+stashJob = record { task = stash measured; stores = numberOf (Stash (record { node = 1; holder = 0 })); answer = answerOf (bytes4 0) }
+
+stash-opened : ledgerStep (firstLedger inputs) (request stash-request) .state
+    ≡ record { history = coldBoot inputs ∷ []; hand = some stashJob; made = 0; torn = false; unfinished = false }
+unfolding ledgerStep letGo viewOf stateOf nextChain wrongChecksum checksumOf inputs digest stash-arguments stash-request svn numberOf coldNodes measured stashJob
+stash-opened = rw (cold-well, cold-free)
+
+stash-counts : run ledgerStep (firstLedger inputs) stash-calls
+    ≡ record { history = coldBoot inputs ∷ stash measured ∷ []; hand = some stashJob; made = stashJob .stores; torn = false; unfinished = false }
+unfolding ledgerStep stash-calls stashJob numberOf
+stash-counts = ap (λ (b : Ledger). run ledgerStep b (replicate (numberOf (Stash (record { node = 1; holder = 0 }))) store)) stash-opened
+
+stashedNodes : List (Option Node)
+stashedNodes = set (set coldNodes 1 (some (childNode 0 measured))) 0 (changed (withHandle retiredHandle) (getD coldNodes 0 none))
+
+stashed-nodes : stateOf (coldBoot inputs ∷ stash measured ∷ []) .chain .nodes ≡ stashedNodes
+unfolding stateOf nextChain coldNodes stashedNodes
+stashed-nodes = rw (cold-free, cold-holder)
 
 module _ (before : List ℕ) (e : length before ≡ imageWords) where
   ends : (calls : List Call) (c : Call) → ledgerEnds (ledgerStep (run ledgerStep (firstLedger inputs) calls) c) ≡ true
@@ -136,13 +183,17 @@ module _ (before : List ℕ) (e : length before ≡ imageWords) where
   -- and that a stash's svn is word 34 of its node, and the root's is 0
   pub svn-counts : (getD (run step (afterColdBoot before inputs) stash-calls .image) (nodeAt 1 + svnAt) 0 ≡ svn)
       × (getD (run step (afterColdBoot before inputs) stash-calls .image) (nodeAt 0 + svnAt) 0 ≡ 0)
-  unfolding ledgerStep letGo viewOf stateOf nextChain wrongChecksum checksumOf inputsOk inputs digest stash-arguments stash-calls svn numberOf nodeRow wordsAt tab zeros allBelow countBelow firstFrom wellFormed placeOk isRoot rootOk childOk handleOk sameHandle hasHandle leads leadsIfUsed nodeWith lowestFree
+  unfolding coldNodes stashedNodes measured stashJob stash-request inputs digest stash-arguments svn checksumOf numberOf nodeRow wordsAt tab zeros
   svn-counts = (at (nodeWords + svnAt), at svnAt)
     where
       image : List ℕ
       image = run step (afterColdBoot before inputs) stash-calls .image
 
-      at : (k : ℕ) → getD image (nodesAt + k) 0 ≡ getD (nodeRows (chainOf (run ledgerStep (firstLedger inputs) stash-calls))) k 0
+      at : (k : ℕ) → getD image (nodesAt + k) 0 ≡ getD (flat (map placeRow stashedNodes)) k 0
       at k =
           sym (getD-drop nodesAt image k 0)
-          ∙ ap (λ (l : List ℕ). getD l k 0) (demand3 before inputs (cold-opens before e) stash-calls .counted refl refl .nodes)
+          ∙ ap (λ (l : List ℕ). getD l k 0)
+          (demand3 before inputs (cold-opens before e) stash-calls .counted (ap (λ (b : Ledger). b .torn) stash-counts)
+          (ap (λ (b : Ledger). tears (b .hand) (b .made)) stash-counts) .nodes
+          ∙ ap (λ (b : Ledger). nodeRows (chainOf b)) stash-counts
+          ∙ ap (λ (l : List (Option Node)). flat (map placeRow l)) stashed-nodes)
