@@ -51,8 +51,7 @@ loop-less c = search needs
 loop-again : tie.Need-loop-again Inv-loop μ-loop
 loop-again c = let l = c .before .before .before .before .loop in
     let t = treeIn (now (c .before .before .before .before .before .before .before .args .image)) in
-    let up = leads-forth nodeCount t (nodeCount - 1) (l .at) (unmarked nodeCount t (l .known) (l .inv .1) (l .at) (l .inv .0) (c .before .if1 .left)) (l .inv .2) in
-    (
+    let up = leads-forth nodeCount t (nodeCount - 1) (l .at) (unmarked nodeCount t (l .known) (l .inv .1) (l .at) (l .inv .0) (c .before .if1 .left)) (l .inv .2) in (
       rw (c .parent-of .ensures) (up .0),
       marked nodeCount t (l .known) (l .inv .1) (l .at) (l .inv .0) (l .inv .2),
       rw (c .parent-of .ensures) (up .1),
