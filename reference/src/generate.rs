@@ -1,4 +1,4 @@
-//! Scripts by seed. Each mixes pieces of eight sorts and ends with the image.
+//! Scripts by seed. Each mixes pieces of nine sorts and ends with the image.
 
 mod broken;
 mod damage;
@@ -6,16 +6,19 @@ mod extensions;
 mod fixed;
 mod fixed_boots;
 mod fixed_extensions;
+mod fixed_nodes;
 mod fixed_svns;
 mod images;
 mod lists;
+mod nodes;
 mod requests;
 mod slices;
 mod svns;
 mod works;
 
-pub use fixed::{extension_input, fixed_inputs, svn_inputs};
+pub use fixed::{extension_input, fixed_inputs, node_inputs, svn_inputs};
 pub use images::{odd_image_1, odd_image_2};
+pub use nodes::{chain, FORMER_NODES, FORMER_WORDS};
 pub use requests::program_input;
 pub use slices::cuts;
 
@@ -57,7 +60,10 @@ pub fn script(seed: u64) -> Script {
         }
         3 => maker.images(3),
         4 => maker.images(2),
-        5 => maker.requests(),
+        5 => {
+            maker.requests();
+            maker.nodes();
+        }
         6 => {
             maker.works(12);
             maker.svns();
@@ -68,7 +74,7 @@ pub fn script(seed: u64) -> Script {
         maker.long_slices();
     }
     while maker.size < ENOUGH && !maker.random.once_in(3) {
-        match maker.random.below(9) {
+        match maker.random.below(10) {
             0 | 1 => maker.lists(1),
             2 => maker.images(1),
             3 => maker.requests(),
@@ -76,6 +82,7 @@ pub fn script(seed: u64) -> Script {
             5 => maker.slices(6),
             6 => maker.extensions(),
             7 => maker.svns(),
+            8 => maker.nodes(),
             _ => maker.long_list(),
         }
     }

@@ -16,7 +16,7 @@ pub const SECRET: usize = 4;
 pub const REGISTERS_AT: usize = SECRET + DIGEST_WORDS;
 pub const REGISTERS: usize = 32;
 pub const NODES_AT: usize = REGISTERS_AT + REGISTERS * DIGEST_WORDS;
-pub const NODES: usize = 24;
+pub const NODES: usize = 32;
 pub const NODE_WORDS: usize = 35;
 pub const IMAGE_WORDS: usize = NODES_AT + NODES * NODE_WORDS;
 

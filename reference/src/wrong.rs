@@ -10,6 +10,7 @@ mod empty;
 mod extension;
 mod manifest;
 mod memory;
+mod nodes;
 mod program;
 mod program_boot;
 mod requests;
@@ -17,9 +18,10 @@ mod running;
 mod shortcuts;
 mod stash;
 mod svn;
+mod walk;
 mod works;
 
-pub use caught::{caught, Caught};
+pub use caught::{caught, untold, Caught};
 
 use crate::book::wrong::BOOKS;
 use crate::engine::Engine;
@@ -68,6 +70,8 @@ pub const GROUPS: &[Group] = &[
     ),
     group("Empty builds", empty::ENGINES, ByScripts),
     group("The image", memory::ENGINES, ByScripts),
+    group("Thirty-two nodes", nodes::ENGINES, ByScripts),
+    group("The way to the root", walk::ENGINES, ByScripts),
     group("Requests", requests::ENGINES, ByScripts),
     group("Stash", stash::ENGINES, ByScripts),
     group("The svn", svn::ENGINES, ByScripts),

@@ -116,7 +116,7 @@ fn an_identity_keys_answer_sums_the_key_alone() {
 
 #[test]
 fn card_6_images_of_other_lengths() {
-    let near = [1_239, 1_241];
+    let near = [1_519, 1_521];
     assert_eq!(near, [IMAGE_WORDS - 1, IMAGE_WORDS + 1]);
     for length in [0, 1].into_iter().chain(near) {
         let mut image = booted();
@@ -167,13 +167,16 @@ fn card_8_a_node_that_is_its_own_parent() {
 
 #[test]
 fn card_9_the_last_free_node() {
-    let mut image = filled(NODES - 1);
+    let (one_free, full) = (31, 32);
+    assert_eq!((one_free, full), (NODES - 1, NODES));
+    let mut image = filled(one_free);
     let work = stash(&image, 0).unwrap();
     assert_eq!(
         (dpe(&work), ENGINE.left(&work)),
         (DPE_DONE, STASH_STORES as u32)
     );
     run(work, &mut image);
+    assert!((0..full).all(|index| Paper.is_used(&image, index)));
     let work = stash(&image, 0).unwrap();
     assert_eq!((dpe(&work), ENGINE.left(&work)), (DPE_FULL, 0));
     assert_eq!(work.kind, Kind::Nothing);

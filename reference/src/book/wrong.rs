@@ -4,7 +4,7 @@ use super::slices::Slices;
 use super::{root, stashed, Book, Event, Look, Node, Opened, Reading, State};
 use crate::boots::{Boot, Boots, Inputs};
 use crate::engine::Paper;
-use crate::layout::{extended, STASHED};
+use crate::layout::{extended, NODES, STASHED, ZERO};
 use crate::requests::{Extension, Request};
 
 /// How the books are kept.
@@ -202,6 +202,11 @@ pub const BOOKS: &[WrongBook] = &[
         }),
     ),
     book(
+        "FullEarly",
+        "a stash is declined when only the last node is free",
+        &FullEarly,
+    ),
+    book(
         "BeginForgotten",
         "a begin leaves the accepted slices in the list",
         &BeginForgotten,
@@ -275,6 +280,24 @@ impl Keeper for NeverTorn {
 
     fn cut(&self, book: &mut Book) {
         book.in_hand = None;
+    }
+}
+
+/// Asked for a stash, the last node is used.
+struct FullEarly;
+
+impl Keeper for FullEarly {
+    fn request(&self, book: &mut Book, request: Request) -> Opened {
+        let last = book.state.nodes[NODES - 1].clone();
+        let below_root = Node {
+            parent: Some(0),
+            holds: false,
+            ..root(&ZERO)
+        };
+        book.state.nodes[NODES - 1].get_or_insert(below_root);
+        let opened = book.request(request);
+        book.state.nodes[NODES - 1] = last;
+        opened
     }
 }
 

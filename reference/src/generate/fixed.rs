@@ -1,8 +1,9 @@
 //! Inputs that have no seed: they go through every case of the running digest,
-//! of a boot's inputs, of an svn and of an extension.
+//! of a boot's inputs, of an svn, of the number of nodes and of an extension.
 
 use super::fixed_boots::boot_inputs;
 use super::fixed_extensions::extensions;
+use super::fixed_nodes::nodes;
 use super::fixed_svns::svns;
 use super::slices::{cuts, BLOCK, MANY, PAST};
 use crate::layout::{SLICE_BYTES, TOTAL_BYTES};
@@ -31,6 +32,7 @@ pub fn fixed_inputs() -> Vec<Vec<u8>> {
     inputs.push(encode(&boot_inputs()));
     inputs.push(extension_input());
     inputs.extend(svn_inputs());
+    inputs.extend(node_inputs());
     inputs
 }
 
@@ -42,6 +44,11 @@ pub fn extension_input() -> Vec<u8> {
 /// Every case of an svn.
 pub fn svn_inputs() -> Vec<Vec<u8>> {
     in_pieces(svns().into_iter())
+}
+
+/// Every case of the number of nodes.
+pub fn node_inputs() -> Vec<Vec<u8>> {
+    in_pieces(nodes().into_iter())
 }
 
 fn message(length: usize) -> Vec<u8> {

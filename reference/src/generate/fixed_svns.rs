@@ -14,7 +14,7 @@ const KIND: u32 = 0x1413_1211;
 const CALLER: u32 = 0x2423_2221;
 
 /// An svn that is no other stash's.
-const FRESH: u32 = 0x8765_4321;
+pub(super) const FRESH: u32 = 0x8765_4321;
 
 /// Lists of operations; none needs what another leaves.
 pub(super) fn svns() -> Vec<Vec<Op>> {
@@ -41,34 +41,34 @@ fn with(svn: u32) -> Stash {
     }
 }
 
-fn stash(svn: u32) -> Op {
+pub(super) fn stash(svn: u32) -> Op {
     Op::Request(mail(&with(svn)))
 }
 
-fn stores(count: usize) -> Op {
+pub(super) fn stores(count: usize) -> Op {
     Op::Store(count as u32)
 }
 
 /// A whole stash.
-fn stashed(svn: u32) -> [Op; 2] {
+pub(super) fn stashed(svn: u32) -> [Op; 2] {
     [stash(svn), stores(STASH_STORES)]
 }
 
-fn boot() -> BootBytes {
+pub(super) fn boot() -> BootBytes {
     BOOTED_WITH.into()
 }
 
 /// A whole cold boot.
-fn cold_boot() -> [Op; 2] {
+pub(super) fn cold_boot() -> [Op; 2] {
     [Op::Cold(boot()), stores(COLD_STORES)]
 }
 
 /// A whole update, and the image.
-fn updated() -> [Op; 3] {
+pub(super) fn updated() -> [Op; 3] {
     [Op::Update(boot(), 1), stores(UPDATE_STORES), Op::Dump]
 }
 
-fn set(field: u8, value: u64) -> Op {
+pub(super) fn set(field: u8, value: u64) -> Op {
     Op::Set { field, value }
 }
 
@@ -232,16 +232,17 @@ fn through_boots() -> Vec<Op> {
 
 /// Images that lack a word or have one too many, and one of nodes without svns.
 fn lengths() -> Vec<Vec<Op>> {
-    let openings = [Op::Cold(boot()), Op::Update(boot(), 1), stash(FRESH)];
-    let of_length = |length: usize| {
-        let mut image = booted();
-        image.resize(length, 0);
-        let mut ops = vec![Op::Image(image)];
-        for opening in &openings {
-            ops.extend([opening.clone(), Op::Left, stores(1), Op::Dump]);
-        }
-        ops
-    };
     let lengths = [IMAGE_WORDS - NODES, IMAGE_WORDS - 1, IMAGE_WORDS + 1];
     lengths.map(of_length).to_vec()
+}
+
+/// Every opening on an image of that length.
+pub(super) fn of_length(length: usize) -> Vec<Op> {
+    let mut image = booted();
+    image.resize(length, 0);
+    let mut ops = vec![Op::Image(image)];
+    for opening in [Op::Cold(boot()), Op::Update(boot(), 1), stash(FRESH)] {
+        ops.extend([opening, Op::Left, stores(1), Op::Dump]);
+    }
+    ops
 }

@@ -1,6 +1,7 @@
 //! Images that no list reaches: trees of any shape, and damage of every sort.
 
 use super::damage::{Drawn, FAULTS};
+use super::nodes::{set_handle, shuffled, FORMER_WORDS};
 use super::svns::svns;
 use super::{Maker, IMAGE_BYTES};
 use crate::layout::*;
@@ -13,9 +14,9 @@ pub fn odd_image_1() -> Vec<u32> {
     let mut image = booted();
     image.copy_within(node(0)..node(1), node(5));
     image[node(0)..node(1)].fill(0);
-    retire(&mut image, 5);
+    set_handle(&mut image, 5, RETIRED_HANDLE);
     image[node(9)] = 0x0005_0001;
-    retire(&mut image, 9);
+    set_handle(&mut image, 9, RETIRED_HANDLE);
     image[node(2)] = 0x0009_0001;
     image[node(2) + TAG] = 7;
     image[node(2) + TYPE] = RTJM;
@@ -33,13 +34,9 @@ pub fn odd_image_2() -> Vec<u32> {
         image[node(index)] = (index as u32 + 1) << 16 | USED;
     }
     for index in 1..NODES {
-        retire(&mut image, index);
+        set_handle(&mut image, index, RETIRED_HANDLE);
     }
     image
-}
-
-fn retire(image: &mut [u32], index: usize) {
-    image[node(index) + HANDLE..][..HANDLE_WORDS].copy_from_slice(&RETIRED_HANDLE);
 }
 
 /// A script with more bytes gets no further image: about two, and what is tried
@@ -48,6 +45,19 @@ const MOST_BEFORE_IMAGE: usize = 2 * IMAGE_BYTES + 3_000;
 
 /// A script with more bytes gets no two images at once.
 const MOST_BEFORE_TWINS: usize = IMAGE_BYTES + 1_000;
+
+/// Lengths that an image may not have: by a word or a node, and the former one.
+const WRONG_LENGTHS: [usize; 9] = [
+    0,
+    1,
+    2,
+    IMAGE_WORDS - 1,
+    IMAGE_WORDS + 1,
+    LENT_WORDS,
+    FORMER_WORDS,
+    IMAGE_WORDS - NODE_WORDS,
+    IMAGE_WORDS + NODE_WORDS,
+];
 
 /// The bits of a parent's index in a wild image: numbers behind the nodes have
 /// no more.
@@ -71,11 +81,18 @@ impl Maker {
     }
 
     fn image(&mut self, turn: usize) -> Vec<u32> {
+        if turn == 0 && self.seed % 32 == 3 {
+            let in_turn = self.seed as usize / 32;
+            return self.image_of_length(WRONG_LENGTHS[in_turn % WRONG_LENGTHS.len()]);
+        }
         match self.random.below(16) {
             0 => odd_image_1(),
             1 => odd_image_2(),
             2 if self.random.once_in(2) => self.wild_image(),
-            3 => self.image_of_wrong_length(),
+            3 => {
+                let length = self.random.pick(&WRONG_LENGTHS);
+                self.image_of_length(length)
+            }
             4 | 5 => {
                 // A well formed one, whatever else it holds.
                 self.drawn().words
@@ -111,13 +128,10 @@ impl Maker {
         words
     }
 
-    fn image_of_wrong_length(&mut self) -> Vec<u32> {
-        let (short, long) = (IMAGE_WORDS - 1, IMAGE_WORDS + 1);
-        let length = self.random.pick(&[
-            0, 1, 2, short, short, long, long, LENT_WORDS, LENT_WORDS, LENT_WORDS,
-        ]);
+    /// An image of a wrong length; of the greatest only in a script that is short.
+    fn image_of_length(&mut self, length: usize) -> Vec<u32> {
         let length = if length == LENT_WORDS && self.size > 2_500 {
-            short - 1
+            IMAGE_WORDS - 2
         } else {
             length
         };
@@ -131,10 +145,7 @@ impl Maker {
 
     /// A well formed tree of any shape in an image that boots.
     fn drawn(&mut self) -> Drawn {
-        let mut order: Vec<usize> = (0..NODES).collect();
-        for last in (1..NODES).rev() {
-            order.swap(last, self.random.between(0, last));
-        }
+        let mut order = shuffled(&mut self.random);
         if self.random.once_in(4) {
             order.sort_unstable();
         }

@@ -122,7 +122,7 @@ impl Maker {
 
     /// What the tree is looked at for: a stash and both boots; then what is opened
     /// to its end.
-    fn try_tree(&mut self) {
+    pub(super) fn try_tree(&mut self) {
         self.push_stash();
         self.push(Op::Left);
         self.push_update(false);

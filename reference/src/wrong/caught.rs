@@ -1,4 +1,5 @@
-//! How many scripts it takes until each wrong engine is caught.
+//! How many scripts it takes until each wrong engine is caught, and which ones
+//! some inputs do not tell.
 
 use super::{Shown, Wrong, GROUPS};
 use crate::engine::Engine;
@@ -76,4 +77,20 @@ fn of_entries(wrong: Wrong, count: u64, played: &mut Vec<Played>) -> Caught {
         }
     }
     caught
+}
+
+/// The wrong engines of a group that none of the inputs tells.
+pub fn untold(inputs: &[Vec<u8>], title: &str) -> Vec<&'static str> {
+    let played: Vec<Played> = inputs
+        .iter()
+        .map(|input| (input.clone(), play(input)))
+        .collect();
+    let group = GROUPS.iter().find(|group| group.title == title);
+    let engines = group.expect("the group").engines.iter();
+    let told = |wrong: &&Wrong| {
+        let mut played = played.iter();
+        played.any(|(input, right)| play_unwatched(wrong.engine, input) != *right)
+    };
+    let untold = engines.filter(|wrong| !told(wrong));
+    untold.map(|wrong| wrong.name).collect()
 }

@@ -320,6 +320,7 @@ OutsideStored: "a work's register may be any of the 32"
     }
 }
 
+// With as many nodes as registers it does as the one before.
 RegisterAsNode: "a work's register has a node's bound"
 [works: Works] {
     fn is_register(&self, index: u64) -> bool {

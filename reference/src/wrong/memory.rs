@@ -13,14 +13,44 @@ fn cut(image: &[u32]) -> &[u32] {
     image.get(..IMAGE_WORDS).unwrap_or(image)
 }
 
-/// An image that lacks its last word, with a zero there; another as it is.
-fn filled(image: &[u32]) -> Vec<u32> {
+/// An image of that length as if it were whole: it goes on with zeros, or ends
+/// where it should. Another is as it is.
+pub(super) fn seen(image: &[u32], length: usize) -> Vec<u32> {
     let mut image = image.to_vec();
-    if image.len() == IMAGE_WORDS - 1 {
-        image.push(0);
+    if image.len() == length {
+        image.resize(IMAGE_WORDS, 0);
     }
     image
 }
+
+/// The methods of an engine that takes images of a length for whole, by part.
+macro_rules! takes {
+    (requests, $length:expr) => {
+        fn open(&self, unit: Unit, request: Request) -> Result<Work, u32> {
+            let image = &seen(unit.image, $length);
+            Paper.open(Unit { image, ..unit }, request)
+        }
+    };
+    (boots, $length:expr) => {
+        fn cold(&self, image: &[u32], inputs: Inputs) -> Result<Opened, u32> {
+            Paper.cold(&seen(image, $length), inputs)
+        }
+        fn update(&self, unit: Unit, inputs: Inputs, verdict: bool) -> Result<Opened, u32> {
+            let image = &seen(unit.image, $length);
+            Paper.update(Unit { image, ..unit }, inputs, verdict)
+        }
+    };
+    (works, $length:expr) => {
+        fn store(&self, work: &mut Work, image: &mut [u32]) -> u32 {
+            let mut whole = seen(image, $length);
+            let number = Paper.store(work, &mut whole);
+            let words = image.len().min(whole.len());
+            image[..words].copy_from_slice(&whole[..words]);
+            number
+        }
+    };
+}
+pub(super) use takes;
 
 super::engines! {
 
@@ -44,26 +74,13 @@ LongImageTaken: "of a longer image the first words are taken"
 
 ShortImageTaken: "an image may lack its last word"
 [requests: Requests] {
-    fn open(&self, unit: Unit, request: Request) -> Result<Work, u32> {
-        Paper.open(Unit { image: &filled(unit.image), ..unit }, request)
-    }
+    takes!(requests, IMAGE_WORDS - 1);
 }
 [boots: Boots] {
-    fn cold(&self, image: &[u32], inputs: Inputs) -> Result<Opened, u32> {
-        Paper.cold(&filled(image), inputs)
-    }
-    fn update(&self, unit: Unit, inputs: Inputs, verdict: bool) -> Result<Opened, u32> {
-        Paper.update(Unit { image: &filled(unit.image), ..unit }, inputs, verdict)
-    }
+    takes!(boots, IMAGE_WORDS - 1);
 }
 [works: Works] {
-    fn store(&self, work: &mut Work, image: &mut [u32]) -> u32 {
-        let mut whole = filled(image);
-        let number = Paper.store(work, &mut whole);
-        let words = image.len();
-        image.copy_from_slice(&whole[..words]);
-        number
-    }
+    takes!(works, IMAGE_WORDS - 1);
 }
 
 MarkNonZero: "any mark but 0 is done"
@@ -188,14 +205,6 @@ FlagsNotChecked: "flag bits 30 to 0 are not looked at"
 [memory: Memory] {
     fn other_flags_fine(&self, _: &[u32], _: usize) -> bool {
         true
-    }
-}
-
-StepTooFew: "the way to the root may have one step fewer"
-[memory: Memory] {
-    fn leads_to_root(&self, image: &[u32], index: usize) -> bool {
-        let mut way = successors(Some(index), |&at| self.next_up(image, at)).take(MAX_STEPS);
-        way.any(|at| self.is_root(image, at))
     }
 }
 

@@ -64,25 +64,6 @@ LengthHalf: "the answer's length is cut to 32 bits"
     sees!(half_length);
 }
 
-NodePastEnd: "the index behind the last node is taken as it stands"
-[works: Works] {
-    fn is_node(&self, index: u64) -> bool {
-        index <= NODES as u64
-    }
-    fn store(&self, work: &mut Work, image: &mut [u32]) -> u32 {
-        if image.len() != IMAGE_WORDS || self.left(work) == 0 {
-            return Paper.store(work, image);
-        }
-        // What is aimed past the end is lost.
-        let aimed = self.next_store(work);
-        if let Some((word, value)) = aimed.filter(|&(word, _)| word < IMAGE_WORDS) {
-            image[word] = value;
-        }
-        work.position += 1;
-        0
-    }
-}
-
 SameNodeRefused: "a stash whose node is its holder is damaged"
 [works: Works] {
     fn is_sound(&self, work: &Work) -> bool {
