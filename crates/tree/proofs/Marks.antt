@@ -34,7 +34,7 @@ module _ (n : ℕ) (t : Tree) where
 pub roots-known : (n : ℕ) (t : Tree) (k : List Bool) → length k ≡ n → ((i : ℕ) → i < n → getD k i false ≡ isRoot (t i)) → Known n t k
 roots-known n t k e h = record { each = e; root = λ i l r. h i l ∙ r; leading = λ i l r. leads-root n t (n - 1) i (sym (h i l) ∙ r) }
 
--- of a filling from the front
+-- filled from the front, one more
 pub roots-more : (t : Tree) (k : List Bool) (i : ℕ) (b : Bool) → i < length k → b ≡ isRoot (t i) → ((j : ℕ) → j < i → getD k j false ≡ isRoot (t j))
     → (j : ℕ) → j < i + 1 → getD (set k i b) j false ≡ isRoot (t j)
 roots-more t k i b l e h j s = elim (ℕ-discrete j i) [
@@ -50,10 +50,11 @@ module _ (n : ℕ) (t : Tree) (k : List Bool) (m : Known n t k) where
       go true r = absurd (true≢false (sym (m .root i l r) ∙ e))
       go false r = r
 
-  -- a walk from node i that has come to node p: a step from a node without a mark, and the end
+  -- a step from a node without a mark to its parent p
   pub walk-on : (s i p : ℕ) → i < n → 0 < s → getD k i false ≡ false → p ≡ t i .parent → leads n t s i ≡ (ltb p n && leads n t (s - 1) p)
   walk-on s i p l b e q = lead-step n t s (s - 1) i (omega arith) ∙ rw (unmarked i l e, q)
 
+  -- a walk from node i with no steps left, at node p: the mark there tells
   pub walk-end : (s i p : ℕ) → p < n → s ≡ 0 → leads n t (n - 1) i ≡ leads n t s p → (leads n t (n - 1) p ≡ true → leads n t (n - 1) i ≡ true)
       → getD k p false ≡ leads n t (n - 1) i
   walk-end s i p l z h back = go (getD k p false) refl
