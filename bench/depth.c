@@ -61,6 +61,7 @@ static void open_request(void) { CALL(waggleloft_open_request)(image, WAGGLELOFT
 static void store(void) { CALL(waggleloft_store)(work, WAGGLELOFT_WORK_WORDS, image, WAGGLELOFT_IMAGE_WORDS); }
 static void left(void) { CALL(waggleloft_left)(work, WAGGLELOFT_WORK_WORDS); }
 static void answer(void) { CALL(waggleloft_answer)(work, WAGGLELOFT_WORK_WORDS, buffer, sizeof buffer, &written); }
+static void entry(void) { CALL(waggleloft_entry)(work, WAGGLELOFT_WORK_WORDS, buffer, sizeof buffer, &written); }
 static void sha384(void) { CALL(waggleloft_sha384)(message, sizeof message, buffer, sizeof buffer); }
 static void begin(void) { CALL(waggleloft_sha384_begin)(state, sizeof state); }
 static void feed_short(void) { CALL(waggleloft_sha384_feed)(state, sizeof state, message, SHORT_SLICE); }
@@ -125,11 +126,13 @@ int main(void)
     show("waggleloft_store, of a cold boot", deepest_store());
     show_request("waggleloft_open_request, a stash", WAGGLELOFT_STASH_MEASUREMENT, 60);
     show("waggleloft_store, of a stash", deepest_store());
+    show("waggleloft_entry, of a stash", DEPTH(waggleloft_entry, entry));
     memcpy(request + 4, &pcr, sizeof pcr);
     show_request("waggleloft_open_request, an extension", WAGGLELOFT_EXTEND_PCR, 56);
     show("waggleloft_store, of an extension", deepest_store());
     show("waggleloft_open_update_boot", DEPTH(waggleloft_open_update_boot, update_boot));
     show("waggleloft_store, of an update", deepest_store());
+    show("waggleloft_entry, of 97 bytes", DEPTH(waggleloft_entry, entry));
     show_request("waggleloft_open_request, the identity key", WAGGLELOFT_IDENTITY_KEY, 4);
     show("waggleloft_answer, of 104 bytes", DEPTH(waggleloft_answer, answer));
     show("waggleloft_left", DEPTH(waggleloft_left, left));

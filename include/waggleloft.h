@@ -4,9 +4,9 @@
  * All functions are in the archive libwaggleloft.a. The unit's memory is an
  * image of WAGGLELOFT_IMAGE_WORDS words that the caller holds. An opening (of a
  * boot or of a mailbox request) reads the image and prepares a work; the work
- * is then run one store at a time; at the end its answer is taken. Between two
- * stores anything may happen, a loss of power too: that is what the works are
- * made for.
+ * is then run one store at a time; at the end its answer and its journal entry
+ * are taken. Between two stores anything may happen, a loss of power too: that
+ * is what the works are made for.
  *
  *     uint32_t work[WAGGLELOFT_WORK_WORDS], outcome;
  *     if (waggleloft_open_update_boot(image, WAGGLELOFT_IMAGE_WORDS, runtime, 48, manifest, 48,
@@ -67,10 +67,13 @@ extern "C" {
  * overwrite them once the work has run). The number may grow with a later
  * version; waggleloft_work_words() is the archive's own.
  */
-#define WAGGLELOFT_WORK_WORDS 106
+#define WAGGLELOFT_WORK_WORDS 130
 
 /* The longest answer, in bytes: a buffer of so many bytes takes every answer. */
 #define WAGGLELOFT_ANSWER_LONGEST 104
+
+/* The longest journal entry, in bytes: a buffer of so many bytes takes every entry. */
+#define WAGGLELOFT_ENTRY_LONGEST 97
 
 /* Bytes of a SHA-384 digest, and of each of a boot's inputs: runtime, manifest, secret. */
 #define WAGGLELOFT_SHA384_BYTES 48
@@ -106,7 +109,7 @@ size_t waggleloft_sha384_state_bytes(void);
 #define WAGGLELOFT_WRONG_LENGTH UINT32_C(4)     /* the request is not as long as its command's */
 #define WAGGLELOFT_WRONG_HANDOFF UINT32_C(5)    /* the handoff table is wrong (identity key) */
 #define WAGGLELOFT_WRONG_INPUT UINT32_C(6)      /* a boot's input not 48 bytes, or its secret all zero */
-#define WAGGLELOFT_STORES_LEFT UINT32_C(7)      /* no answer before the last store */
+#define WAGGLELOFT_STORES_LEFT UINT32_C(7)      /* no answer and no entry before the last store */
 #define WAGGLELOFT_SHORT_BUFFER UINT32_C(8)     /* buffer shorter than the answer, or than 48 bytes */
 #define WAGGLELOFT_NO_STORE_LEFT UINT32_C(9)    /* the work has no store left */
 #define WAGGLELOFT_LONG_MESSAGE UINT32_C(10)    /* message or slice longer than 65,535 bytes */
@@ -114,11 +117,19 @@ size_t waggleloft_sha384_state_bytes(void);
 #define WAGGLELOFT_WRONG_REGISTER UINT32_C(12)  /* the register is none of PCR4 to PCR30 (extend) */
 #define WAGGLELOFT_ATTESTATION_OFF UINT32_C(13) /* attestation is off (extend) */
 #define WAGGLELOFT_LONG_TOTAL UINT32_C(16)      /* all slices together would pass 2^32 - 1 bytes */
+#define WAGGLELOFT_SHORT_FOR_ENTRY UINT32_C(23) /* buffer shorter than the journal entry */
 #define WAGGLELOFT_WRONG_COUNTS UINT32_C(27)    /* the state's counts disagree, or its total is too large */
 #define WAGGLELOFT_WRONG_WORK UINT32_C(28)      /* the work is not WAGGLELOFT_WORK_WORDS words */
 #define WAGGLELOFT_WRONG_STATE UINT32_C(28)     /* the state is not WAGGLELOFT_SHA384_STATE_BYTES bytes */
 #define WAGGLELOFT_BAD_CHECKSUM UINT32_C(0x4243484B)  /* the request's checksum is wrong */
 #define WAGGLELOFT_BAD_SIGNATURE UINT32_C(0x42534947) /* the verdict on a signature is no (verify) */
+
+/* ---- Numbers of the program replay, which reads a journal ---- */
+
+#define WAGGLELOFT_UNKNOWN_KIND UINT32_C(20)     /* an entry's kind is not listed */
+#define WAGGLELOFT_WRONG_NUMBER UINT32_C(21)     /* a number of an entry is too long or too large */
+#define WAGGLELOFT_CUT_ENTRY UINT32_C(22)        /* the journal ends inside an entry */
+#define WAGGLELOFT_IMPOSSIBLE_ENTRY UINT32_C(24) /* the unit could not have counted this entry there */
 
 /* ---- What a boot comes to ---- */
 
@@ -293,6 +304,26 @@ uint32_t waggleloft_store(uint32_t *work, size_t work_len, uint32_t *image,
  */
 uint32_t waggleloft_answer(const uint32_t *work, size_t work_len,
                            uint8_t *buffer, size_t buffer_len, size_t *written);
+
+/*
+ * Takes the journal entry of a work, after its last store, into the front of
+ * the buffer, any number of times. Entries joined in the order of their works
+ * are the unit's journal, which an inspector replays beside a saved image. An
+ * entry is at most WAGGLELOFT_ENTRY_LONGEST bytes; that of a work with nothing
+ * to store has none. It holds a boot's two digests, a stash's type, digest, svn
+ * and caller, or an extension's register and digest; never the secret.
+ *
+ * Handed back, the first that applies:
+ *   WAGGLELOFT_WRONG_WORK       work_len is not WAGGLELOFT_WORK_WORDS
+ *   WAGGLELOFT_STORES_LEFT      stores are left, or the work's words are damaged
+ *   WAGGLELOFT_SHORT_FOR_ENTRY  buffer_len is less than the entry's length
+ *   WAGGLELOFT_OK               otherwise: *written is the entry's length, and bytes of the buffer
+ *                               past it stay
+ *
+ * If it is refused, buffer and *written stay as they were.
+ */
+uint32_t waggleloft_entry(const uint32_t *work, size_t work_len,
+                          uint8_t *buffer, size_t buffer_len, size_t *written);
 
 /* ---- Digest and checksum ---- */
 

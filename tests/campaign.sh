@@ -4,6 +4,7 @@ set -euo pipefail
 cd "$(dirname "$(readlink -f "${BASH_SOURCE[0]}")")/.."
 . tests/shell.sh
 . tests/expect.sh
+. tests/second.sh
 
 usage="usage: tests/campaign.sh [SCRIPTS [FIRST_SEED]]
   SCRIPTS      how many scripts the driver plays, at least 1 (2000 if left out)
@@ -21,32 +22,10 @@ scripts=$((10#${1:-2000})) from=$((10#${2:-0}))
 [ "$scripts" -gt 0 ] || die 2 'a campaign of 0 scripts shows nothing'
 
 make_scratch
-need_cargo
 need_built driver
 need_built mailbox
-cargo build --quiet --offline --locked --release --manifest-path reference/Cargo.toml
-second=$CARGO_TARGET_DIR/release/reference
+build_second
 driver=target/bin/driver mailbox=target/bin/mailbox
-
-# Shows what a command prints. Then, of its last line, what is behind the last
-# comma, and its exit status.
-ending() { # WORDS..
-    local status=0
-    "$@" >"$scratch/log" 2>&1 || status=$?
-    cat "$scratch/log" >&2
-    echo "$(tail -n 1 "$scratch/log" | sed 's/.*, //'), status $status"
-}
-
-# The first bytes that a program writes for an input without end.
-endless() { # PROGRAM BYTE
-    tr '\0' "$2" </dev/zero | timeout 20 "$1" | head -c 16 | od -An -tx1 | tr -d ' \n'
-    echo ", status ${PIPESTATUS[1]}"
-}
-
-# Whether the output that a program's crate keeps is the second program's, for the input beside it.
-kept() { # CRATE COMMAND
-    "$second" "$2" <"crates/$1/stdin" | cmp - "crates/$1/stdout" 2>&1 && echo same
-}
 
 expect "the driver's kept output" same "$(kept driver play)"
 expect "the small program's kept output" same "$(kept mailbox mailbox)"

@@ -9,7 +9,7 @@ root=$(cd "$(dirname "${BASH_SOURCE[0]}")/.." && pwd)
 work=$(mktemp -d)
 trap 'rm -rf "$work"' EXIT
 cd "$work"
-"$root/run" --build sha384sum mailbox driver
+"$root/run" --build sha384sum mailbox driver replay
 
 # Prints what a command writes to standard output, and its exit status; its error stream goes to the
 # file stderr.
@@ -142,8 +142,9 @@ tree() { # COUNT
 # The stores of a stash.
 stores=54
 
-expect 'the demo: three trees' "$(tree 3 && tree 3 && tree 4)"$'\nstatus 0' \
-    "$(outcome "$root/demo" | grep -E '^     |^status')"
+outcome "$root/demo" >demo.out
+expect 'the demo: status 0' 'status 0' "$(tail -n 1 demo.out)"
+expect 'the demo: three trees' "$(tree 3 && tree 3 && tree 4)" "$(sed '/^The inspector/,$d' demo.out | grep '^     ')"
 expect 'the demo: four cuts' \
     "$(printf '%s\n' \
         "Cut after 0 of $stores stores. The restart gives outcome 1" \
@@ -154,8 +155,20 @@ expect 'the demo: four cuts' \
         'The measurement was torn' \
         "Cut after $stores of $stores stores. The restart gives outcome 1" \
         'The new program is in the list')" \
-    "$("$root/demo" 2>/dev/null |
-        grep -oE 'Cut after [0-9]+ of [0-9]+ stores. The restart gives outcome [0-9]|The new program is( not)? in the list|The measurement was torn')"
+    "$(grep -oE 'Cut after [0-9]+ of [0-9]+ stores. The restart gives outcome [0-9]|The new program is( not)? in the list|The measurement was torn' demo.out)"
+
+# The inspector's part: every entry's offset and kind, and three verdicts.
+inspection=$(printf '%s\n' ALIKE '1 0 cold' '2 97 stash' '3 153 stash' '4 209 extension' '5 259 update' '6 356 stash' \
+    'NOT ALIKE' 'NOTHING TO COMPARE')
+# What the demo says of these.
+said_of_journal() {
+    sed '1,/^The inspector/d' | grep -oE '^ *(NOT )?ALIKE$|^ *NOTHING TO COMPARE$|^ +[0-9]+ +[0-9]+ [a-z]+' | awk '{ $1 = $1; print }'
+}
+expect 'the demo: a journal inspected' "$inspection" "$(said_of_journal <demo.out)"
+expect 'the demo: what the last entry made' 1 "$(grep -c 'than the image has: PCR31, node 2 and node 3\.$' demo.out)"
+mkdir kept
+expect "the demo's journal alone" "$inspection"$'\nstatus 0' "$({ echo && outcome "$root/demo" journal kept; } >demo.out && said_of_journal <demo.out && tail -n 1 demo.out)"
+expect "the demo's journal is kept" 'status 0' "$(outcome "$root/inspect" kept/unit.image kept/unit.journal | tail -n 1)"
 
 expect 'card 10 in words' \
     'The result is 0 (accepted). The answer of 8 bytes has the checksum 0x00000000 and FIPS status 0 (always 0).' \
@@ -187,6 +200,7 @@ expect 'a short request in words' \
     "$("$root/demo" request short 2>/dev/null | tail -n 1)"
 complains 'a request in a folder' 1 'cannot be read' "$root/demo" request .
 complains 'a request that is not there' 1 'cannot be read' "$root/demo" request no_such_file
+complains 'no folder for the demo' 1 "no folder 'none'" "$root/demo" journal none
 complains 'a word that the demo has not' 2 "there is no 'nope'" "$root/demo" nope
 complains 'an option that the demo has not' 2 "no option '--nope'" "$root/demo" --nope
 complains 'too many words for the demo' 2 'too many arguments' "$root/demo" request abc abc

@@ -1,10 +1,10 @@
 #!/usr/bin/env bash
-# Counts the lines of the definitions that a reader must believe: those that the entries' contracts, demand 3
-# and the running digest's theorem name, and those that these name in turn. Lines that are empty, a comment or
+# Counts the lines of the definitions that a reader must believe: those that the entries' contracts, demand 3,
+# the running digest's theorem and the journal's name, and those that these name in turn. Lines that are empty, a comment or
 # a `use` do not count; neither do definitions that no statement rests on (figures as numerals, the geometry's
 # record).
 set -euo pipefail
-limit=1021
+limit=1577
 usage="usage: tests/spec-lines.sh [--list | --help] [ROOT]
   Prints 'N lines of definitions'; exit status 1 if they are more than $limit.
   --list  prints each definition that counts before that, with its lines
@@ -19,13 +19,17 @@ esac
 [ $# -le 1 ] || { echo "tests/spec-lines.sh: too many words (--help tells them)" >&2; exit 2; }
 cd "${1:-$(dirname "$(readlink -f "${BASH_SOURCE[0]}")")/..}"
 
-# The entries' definitions, and the statements of demand 3 and of the running digest.
+# The entries' definitions, and the statements of demand 3, of the running digest and of the journal.
 roots='opening/Openings:openRequest opening/Openings:openColdBoot opening/Openings:openUpdateBoot
 opening/Openings:statusNumber opening/Openings:bootNumber opening/Openings:outcomeNumber opening/Tasks:requestOf
 work/Entries:leftOf work/Entries:storeResult work/Entries:storeImage work/Entries:answerResult
 work/Entries:answerBuffer sha384/Entries:digestOf sha384/Entries:extended message/Checksum:checksumOf
 opening/Tasks:bootOf history/Demand:Demand3
-running/Running:begun running/Running:feedResult running/Running:finishResult running/Steps:RunningDigest'
+running/Running:begun running/Running:feedResult running/Running:finishResult running/Steps:RunningDigest
+work/Recorded:entryResult work/Recorded:entryBuffer journal_bytes/Results:numberRead journal_bytes/Results:entryRead
+journal/Statements:Laid journal/Statements:ReadsBack journal/Statements:OneJournal journal/Statements:StopsThere
+journal/Statements:Decides replaying/Lives:Replays replaying/Lives:Accepts replaying/Unit:Records
+replaying/Unit:Inspected replaying/Unit:Vouches recount/OnImage:madeOn inspection/Pieces:Pieces'
 
 shopt -s nullglob
 files=(crates/*/specs/*.antt)

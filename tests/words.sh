@@ -18,7 +18,7 @@ lines() { # SCRIPT WORDS..
     echo "$(wc -l <out) $(wc -l <err) status $status"
 }
 
-for script in answer.sh engines.sh campaign.sh definitions.sh spec-lines.sh spec-names.sh; do
+for script in answer.sh engines.sh campaign.sh replay.sh definitions.sh spec-lines.sh spec-names.sh; do
     expect "$script --help: status 0" 'status 0' "$(lines "$script" --help | cut -d' ' -f3-)"
     expect "$script --help: the usage" "usage: tests/$script" "$(head -n 1 out | cut -d' ' -f-2)"
     expect "$script: an unknown word" '0 1 status 2' "$(lines "$script" --chekc)"
@@ -31,9 +31,12 @@ done
 expect 'a campaign of 0 scripts' '0 1 status 2' "$(lines campaign.sh 0)"
 expect 'a campaign of 000 scripts' '0 1 status 2' "$(lines campaign.sh 000)"
 expect 'a seed that is no number' '0 1 status 2' "$(lines campaign.sh 5 x)"
+expect 'a program that is not there' '0 1 status 2' "$(lines replay.sh none)"
+expect 'a folder for a program' '0 1 status 2' "$(lines replay.sh tests)"
 export TMPDIR=$scratch/none
 expect 'a table without TMPDIR' '0 1 status 1' "$(lines engines.sh --check)"
 expect 'a campaign without TMPDIR' '0 1 status 1' "$(lines campaign.sh 5)"
+expect 'a comparison without TMPDIR' '0 1 status 1' "$(lines replay.sh tests/replay.sh)"
 export TMPDIR=$scratch
 
 # ---- the table check, through a symbolic link and on a page of its own

@@ -1,6 +1,8 @@
 //! The book of demand 3: what a list of calls and cuts after a cold boot comes
 //! to. Its registers and nodes are computed from the history alone.
 
+mod journal;
+pub mod replay;
 pub mod slices;
 pub mod wrong;
 
@@ -56,13 +58,15 @@ struct Node {
 /// How the history is read, each rule by itself, so that a book can be wrong in
 /// just one.
 #[derive(Clone, Copy)]
-struct Reading {
+pub struct Reading {
     /// A register's value after a boot, from the one before.
     measure: fn(&Digest, &Boot) -> Digest,
     /// A cold boot's root, from its measurement.
     root: fn(&Digest) -> Node,
     /// A stash's node below the holder.
     stashed: fn(usize, &Stash) -> Node,
+    /// An event's entry in the journal.
+    entry: fn(&Event) -> Vec<u8>,
 }
 
 impl Reading {
@@ -70,6 +74,7 @@ impl Reading {
         measure: runtime_then_manifest,
         root,
         stashed,
+        entry: Event::entry,
     };
 }
 
@@ -107,7 +112,7 @@ fn stashed(holder: usize, stash: &Stash) -> Node {
 
 /// Registers and nodes.
 #[derive(Clone, Debug, PartialEq, Eq)]
-struct State {
+pub struct State {
     registers: [Digest; REGISTERS],
     nodes: [Option<Node>; NODES],
 }
@@ -380,6 +385,7 @@ impl Book {
         if State::replay(&self.history, self.reading) != self.state {
             return Err("the book's state is not its history's".into());
         }
+        self.is_inspected(image)?;
         if self.torn {
             self.off_for_good = true;
             return claim(is_shut(image), || {

@@ -1,6 +1,7 @@
 //! "Cold boot" and "Update boot": the order of numbers, the outcome, and the
 //! work that is opened. An opening reads the image and changes nothing.
 
+use crate::journal::Value;
 use crate::layout::*;
 use crate::memory::Unit;
 use crate::work::{Kind, Work};
@@ -30,6 +31,16 @@ pub struct Boot {
     pub runtime: Digest,
     pub manifest: Digest,
     pub secret: Digest,
+}
+
+impl Boot {
+    pub fn inputs(&self) -> Inputs<'_> {
+        Inputs {
+            runtime: &self.runtime,
+            manifest: &self.manifest,
+            secret: &self.secret,
+        }
+    }
 }
 
 /// What the measurements of a boot start from: PCR3 and the root's cumulative
@@ -74,6 +85,7 @@ pub trait Boots {
         let mut work = Work::new(Kind::Cold, &[]);
         let measured = self.measured(&Before::ZERO, &boot);
         work.whole = booted(&measured, &boot.secret).split_off(ATTESTATION);
+        work.told = self.told(&boot);
         Ok((work, COLD))
     }
 
@@ -120,7 +132,13 @@ pub trait Boots {
         work.secret = words_of(&boot.secret);
         work.set_node(NODE_CURRENT, &measured.root_current);
         work.set_node(NODE_CUMULATIVE, &measured.root_cumulative);
+        work.told = self.told(boot);
         work
+    }
+
+    /// What the journal tells of a boot: never the secret.
+    fn told(&self, boot: &Boot) -> Vec<Value> {
+        vec![Value::Digest(boot.runtime), Value::Digest(boot.manifest)]
     }
 
     /// The digests that PCR2 and PCR3 are extended by, in order.

@@ -1,5 +1,7 @@
 //! Runs another program on generated inputs and compares byte for byte.
 
+pub mod replay;
+
 use crate::checksum::sealed;
 use crate::generate::{fixed_inputs, program_input, script, Script};
 use crate::layout::{DISABLE, EXTEND, IDENTITY, IMAGE_WORDS, STASH, VERIFY};
@@ -10,7 +12,7 @@ use crate::show;
 use std::fs;
 use std::io::{Read, Write};
 use std::path::{Path, PathBuf};
-use std::process::{Command, Stdio};
+use std::process::{Child, Command, Stdio};
 use std::sync::mpsc;
 use std::thread;
 use std::time::{Duration, Instant};
@@ -37,14 +39,8 @@ pub fn run(program: &Path, input: &[u8]) -> Result<Vec<u8>, String> {
 
 /// As `run`; the input comes in pieces of so many bytes, with pauses.
 fn run_in_pieces(program: &Path, input: &[u8], piece: usize) -> Result<Vec<u8>, String> {
-    let mut child = Command::new(program)
-        .stdin(Stdio::piped())
-        .stdout(Stdio::piped())
-        .stderr(Stdio::null())
-        .spawn()
-        .map_err(|error| format!("{} does not start: {error}", program.display()))?;
+    let mut child = started(program)?;
     let mut to = child.stdin.take().expect("standard input is a pipe");
-    let from = child.stdout.take().expect("standard output is a pipe");
     let input = input.to_vec();
     // A program that ends before its input does breaks the pipe: that is fine.
     let writer = thread::spawn(move || {
@@ -57,6 +53,23 @@ fn run_in_pieces(program: &Path, input: &[u8], piece: usize) -> Result<Vec<u8>, 
             }
         }
     });
+    let output = output_of(child);
+    drop(writer.join());
+    output
+}
+
+fn started(program: &Path) -> Result<Child, String> {
+    Command::new(program)
+        .stdin(Stdio::piped())
+        .stdout(Stdio::piped())
+        .stderr(Stdio::null())
+        .spawn()
+        .map_err(|error| format!("{} does not start: {error}", program.display()))
+}
+
+/// What a started program writes to its end.
+fn output_of(mut child: Child) -> Result<Vec<u8>, String> {
+    let from = child.stdout.take().expect("standard output is a pipe");
     let (sender, receiver) = mpsc::channel();
     let reader = thread::spawn(move || {
         let mut output = Vec::new();
@@ -68,7 +81,7 @@ fn run_in_pieces(program: &Path, input: &[u8], piece: usize) -> Result<Vec<u8>, 
         drop(child.kill());
     }
     let status = child.wait().map_err(|error| error.to_string())?;
-    drop((writer.join(), reader.join()));
+    drop(reader.join());
     match output {
         Err(_) => Err("no end within two minutes".into()),
         Ok(Err(error)) => Err(error.to_string()),

@@ -1,6 +1,7 @@
 //! The engine: the entries, made of parts that each hold a section's rules.
 
 use crate::boots::{Boots, Inputs, Opened};
+use crate::journal::Journals;
 use crate::layout::Digest;
 use crate::mailbox::Program;
 use crate::memory::{Memory, Unit};
@@ -16,6 +17,7 @@ impl Memory for Paper {}
 impl Requests for Paper {}
 impl Boots for Paper {}
 impl Works for Paper {}
+impl Journals for Paper {}
 impl RunningDigest for Paper {}
 impl Program for Paper {}
 impl Host for Paper {}
@@ -26,6 +28,7 @@ pub struct Engine {
     pub requests: &'static dyn Requests,
     pub boots: &'static dyn Boots,
     pub works: &'static dyn Works,
+    pub journal: &'static dyn Journals,
     pub running: &'static dyn RunningDigest,
     /// The small program around the entries, and the driver.
     pub program: &'static dyn Program,
@@ -39,6 +42,7 @@ impl Engine {
         requests: &Paper,
         boots: &Paper,
         works: &Paper,
+        journal: &Paper,
         running: &Paper,
         program: &Paper,
         host: &Paper,
@@ -73,6 +77,10 @@ impl Engine {
 
     pub fn answer(&self, work: &Work, buffer: &mut [u8]) -> u32 {
         self.works.answer(work, buffer)
+    }
+
+    pub fn entry(&self, work: &Work, buffer: &mut [u8]) -> Result<usize, u32> {
+        self.journal.take(self.works, work, buffer)
     }
 
     pub fn begin(&self, running: &mut Running) {

@@ -1,14 +1,19 @@
-//! Scripts by seed. Each mixes pieces of nine sorts and ends with the image.
+//! Scripts by seed. Each mixes pieces of ten sorts and ends with the image. And
+//! inputs of the other programs.
 
 mod broken;
 mod damage;
+mod entries;
 mod extensions;
 mod fixed;
 mod fixed_boots;
+mod fixed_entries;
 mod fixed_extensions;
+mod fixed_journals;
 mod fixed_nodes;
 mod fixed_svns;
 mod images;
+mod journals;
 mod lists;
 mod nodes;
 mod requests;
@@ -16,8 +21,10 @@ mod slices;
 mod svns;
 mod works;
 
-pub use fixed::{extension_input, fixed_inputs, node_inputs, svn_inputs};
+pub use entries::BORDERS;
+pub use fixed::{entry_inputs, extension_input, fixed_inputs, node_inputs, svn_inputs};
 pub use images::{odd_image_1, odd_image_2};
+pub use journals::{replay_inputs, Inspection, LongJournal, Unit};
 pub use nodes::{chain, FORMER_NODES, FORMER_WORDS};
 pub use requests::program_input;
 pub use slices::cuts;
@@ -34,6 +41,9 @@ const ENOUGH: usize = 2 * IMAGE_BYTES;
 
 /// One operation in so many has one on the running digest before it.
 const RUNNING_BETWEEN: usize = 24;
+
+/// One operation in so many has a journal entry taken before it.
+const ENTRY_BETWEEN: usize = 12;
 
 /// Operations, and bytes after them at which the run ends.
 pub struct Script {
@@ -59,7 +69,10 @@ pub fn script(seed: u64) -> Script {
             maker.extensions();
         }
         3 => maker.images(3),
-        4 => maker.images(2),
+        4 => {
+            maker.entries();
+            maker.images(2);
+        }
         5 => {
             maker.requests();
             maker.nodes();
@@ -74,7 +87,7 @@ pub fn script(seed: u64) -> Script {
         maker.long_slices();
     }
     while maker.size < ENOUGH && !maker.random.once_in(3) {
-        match maker.random.below(10) {
+        match maker.random.below(11) {
             0 | 1 => maker.lists(1),
             2 => maker.images(1),
             3 => maker.requests(),
@@ -83,6 +96,7 @@ pub fn script(seed: u64) -> Script {
             6 => maker.extensions(),
             7 => maker.svns(),
             8 => maker.nodes(),
+            9 => maker.entries(),
             _ => maker.long_list(),
         }
     }
@@ -120,10 +134,14 @@ impl Maker {
     }
 
     /// Adds an operation and now and then, before it, one on the running digest,
-    /// which is to leave the others alone, and they it.
+    /// which is to leave the others alone, and they it; or a journal entry, which
+    /// changes nothing.
     fn push(&mut self, op: Op) {
         if self.random.once_in(RUNNING_BETWEEN) {
             self.push_running();
+        }
+        if self.random.once_in(ENTRY_BETWEEN) {
+            self.push_entry();
         }
         self.add(op);
     }
@@ -266,12 +284,13 @@ impl Maker {
         self.push(Op::Update(boot, verdict));
     }
 
-    /// Looks without consequence: stores left, an answer, the image.
+    /// Looks without consequence: stores left, an answer, an entry, the image.
     fn peek(&mut self) {
-        match self.random.below(6) {
+        match self.random.below(8) {
             0 | 1 => self.push(Op::Left),
             2 | 3 => self.push_answer(),
             4 => self.push(Op::Dump),
+            5 | 6 => self.push_entry(),
             _ => {}
         }
     }

@@ -175,6 +175,11 @@ pub mod number {
     pub const REGISTER: u32 = 12;
     pub const OFF: u32 = 13;
     pub const TOTAL: u32 = 16;
+    pub const KIND: u32 = 20;
+    pub const GROUPS: u32 = 21;
+    pub const CUT: u32 = 22;
+    pub const ENTRY_BUFFER: u32 = 23;
+    pub const UNCOUNTED: u32 = 24;
     pub const COUNTS: u32 = 27;
     pub const CHECKSUM: u32 = 0x4243_484B;
     pub const SIGNATURE: u32 = 0x4253_4947;

@@ -6,7 +6,7 @@
 //! The reading of document 01 is `layout`, `memory`, `requests`, `boots`,
 //! `work`, `engine`, `mailbox` and `book`, with document 02's manifest digest,
 //! register extension and svn in them; its running digest is `running` and
-//! `book::slices`. Around it: `script` and `player` are the driver, `generate`
+//! `book::slices`, its journal `journal`, `book::journal` and `book::replay`. Around it: `script` and `player` are the driver, `generate`
 //! makes scripts, `campaign` compares, and `wrong` and `book::wrong` hold what is
 //! wrong on purpose.
 
@@ -15,6 +15,7 @@ pub mod book;
 pub mod boots;
 pub mod checksum;
 pub mod engine;
+pub mod journal;
 pub mod layout;
 pub mod mailbox;
 pub mod memory;

@@ -2,6 +2,7 @@
 //! follows a completed cold boot, and with a book of the accepted slices beside
 //! the running digest for as long as no count is set from outside.
 
+pub mod entry;
 mod running;
 
 use crate::book::slices::Slices;
@@ -14,6 +15,7 @@ use crate::requests::Request;
 use crate::running::Running;
 use crate::script::{Op, Reader, TOTAL, WAITING};
 use crate::work::Work;
+use entry::Fit;
 use std::collections::BTreeSet;
 
 /// The number for a call without a work in hand.
@@ -38,6 +40,17 @@ pub trait Host {
     /// What is in hand after an answer.
     fn after_answer(&self, work: Work) -> Work {
         work
+    }
+
+    /// The length that is written with a journal entry, of which so many bytes
+    /// are to be had.
+    fn entry_length(&self, taken: Result<usize, u32>, _entry: usize) -> u32 {
+        taken.unwrap_or(0) as u32
+    }
+
+    /// What is in hand after its journal entry was taken.
+    fn after_entry(&self, work: Work) -> Option<Work> {
+        Some(work)
     }
 
     /// The running digest when a run starts.
@@ -89,6 +102,8 @@ pub struct Seen {
     /// Kind of the work in hand and stores made when a cut came.
     pub cuts: BTreeSet<(Sort, u64)>,
     pub damaged_works: u64,
+    /// Kind of work, number and fit of the buffer where an entry was taken.
+    pub entries: BTreeSet<(Sort, u32, Fit)>,
     pub looks: u64,
     pub looks_after_tears: u64,
     /// Bytes waiting before and after an accepted slice.
@@ -215,6 +230,7 @@ impl Player {
             })?,
             Op::Store(count) => self.stores(count)?,
             Op::Answer(size) => self.answer(size)?,
+            Op::Entry(size) => self.entry(size)?,
             Op::Left => self.left()?,
             Op::Cut => {
                 if let Some(work) = self.work.take() {

@@ -2,6 +2,7 @@
 //! work that it opens. An opening reads the image and changes nothing.
 
 use crate::checksum::{answer_of, checksum};
+use crate::journal::Value;
 use crate::layout::*;
 use crate::memory::Unit;
 use crate::work::{Kind, Work};
@@ -236,7 +237,18 @@ pub trait Requests {
         work.node[TYPE] = stash.kind;
         work.node[LOCALITY] = stash.caller;
         work.node[SVN] = stash.svn;
+        work.told = self.told(stash);
         work
+    }
+
+    /// What the journal tells of a stash.
+    fn told(&self, stash: &Stash) -> Vec<Value> {
+        vec![
+            Value::Number(stash.kind),
+            Value::Digest(stash.digest),
+            Value::Number(stash.svn),
+            Value::Number(stash.caller),
+        ]
     }
 
     /// An accepted extension of its register.
@@ -247,6 +259,7 @@ pub trait Requests {
         };
         let mut work = Work::new(kind, answer);
         work.extended = words_of(&extended(&old, &extension.digest));
+        work.told = vec![Value::Digest(extension.digest)];
         work
     }
 }

@@ -81,6 +81,8 @@ pub enum Op {
     Request(Mail),
     Store(u32),
     Answer(u16),
+    /// Takes the work's journal entry.
+    Entry(u16),
     Left,
     Cut,
     Set {
@@ -103,7 +105,7 @@ pub const TOTAL: u8 = 0;
 pub const WAITING: u8 = 1;
 
 /// Every letter of an operation.
-pub const LETTERS: &[u8] = b"ICURSALXWDbfew";
+pub const LETTERS: &[u8] = b"ICURSAJLXWDbfew";
 
 fn put_string(out: &mut Vec<u8>, bytes: &[u8]) {
     let length =
@@ -121,6 +123,7 @@ impl Op {
             Op::Request(_) => b'R',
             Op::Store(_) => b'S',
             Op::Answer(_) => b'A',
+            Op::Entry(_) => b'J',
             Op::Left => b'L',
             Op::Cut => b'X',
             Op::Set { .. } => b'W',
@@ -146,7 +149,7 @@ impl Op {
             }
             Op::Request(mail) => mail.encode(out),
             Op::Store(count) => out.extend_from_slice(&count.to_le_bytes()),
-            Op::Answer(size) => out.extend_from_slice(&size.to_le_bytes()),
+            Op::Answer(size) | Op::Entry(size) => out.extend_from_slice(&size.to_le_bytes()),
             Op::Set { field, value } | Op::SetCount { field, value } => {
                 out.push(*field);
                 out.extend_from_slice(&value.to_le_bytes());
@@ -207,6 +210,7 @@ impl<'a> Reader<'a> {
             b'R' => Op::Request(fields.mail()?),
             b'S' => Op::Store(fields.number()?),
             b'A' => Op::Answer(fields.short()?),
+            b'J' => Op::Entry(fields.short()?),
             b'L' => Op::Left,
             b'X' => Op::Cut,
             b'W' => Op::Set {
@@ -320,6 +324,7 @@ mod tests {
             }),
             Op::Store(70_000),
             Op::Answer(300),
+            Op::Entry(0x0201),
             Op::Left,
             Op::Cut,
             Op::Set {
@@ -357,6 +362,7 @@ mod tests {
         for op in [
             Op::Image(vec![1; 3]),
             Op::Update(boot(4, 5, 6), 1),
+            Op::Entry(0),
             Op::Set { field: 0, value: 3 },
             Op::Feed(vec![6; 5]),
             Op::SetCount { field: 0, value: 3 },

@@ -126,6 +126,7 @@ pub fn operation(op: &Op) -> String {
         Op::Request(request) => format!("R {}", mail(request)),
         Op::Store(count) => format!("S {count}"),
         Op::Answer(size) => format!("A {size}"),
+        Op::Entry(size) => format!("J {size}"),
         Op::Left => "L".into(),
         Op::Cut => "X".into(),
         Op::Set { field, value } => {
@@ -216,6 +217,15 @@ impl Output<'_> {
                 let number = self.number()?;
                 let buffer = self.take(usize::from(*size))?;
                 format!("number {}, buffer {}", refusal(number), told(&buffer))
+            }
+            Op::Entry(size) => {
+                let (number, length) = (self.number()?, self.number()?);
+                let buffer = self.take(usize::from(*size))?;
+                format!(
+                    "number {}, entry of {length} bytes, buffer {}",
+                    refusal(number),
+                    told(&buffer)
+                )
             }
             Op::Left => format!("{} left", refusal(self.number()?)),
             Op::Dump => {

@@ -1,6 +1,7 @@
 //! "Work, one word at a time": the store table, one store, the stores left,
 //! the answer.
 
+use crate::journal::Value;
 use crate::layout::*;
 
 #[derive(Clone, Copy, Debug, PartialEq, Eq)]
@@ -65,6 +66,8 @@ pub struct Work {
     pub node: [u32; NODE_WORDS],
     /// A cold boot's words from word 1 on; empty for every other kind.
     pub whole: Vec<u32>,
+    /// The inputs that its journal entry tells, but for an extension's register.
+    pub told: Vec<Value>,
 }
 
 impl Work {
@@ -83,6 +86,7 @@ impl Work {
             secret: [0; DIGEST_WORDS],
             node: [0; NODE_WORDS],
             whole: Vec::new(),
+            told: Vec::new(),
         }
     }
 

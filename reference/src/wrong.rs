@@ -7,6 +7,7 @@
 mod boots;
 mod caught;
 mod empty;
+mod entry;
 mod extension;
 mod manifest;
 mod memory;
@@ -23,6 +24,7 @@ mod works;
 
 pub use caught::{caught, untold, Caught};
 
+use crate::book::replay::wrong::{HOARDER, REPLAYERS};
 use crate::book::wrong::BOOKS;
 use crate::engine::Engine;
 use Shown::{ByProgram, ByProgramImage, ByScripts};
@@ -79,6 +81,7 @@ pub const GROUPS: &[Group] = &[
     group("Boots", boots::ENGINES, ByScripts),
     group("The manifest digest", manifest::ENGINES, ByScripts),
     group("Works by value", works::ENGINES, ByScripts),
+    group("The journal entry", entry::ENGINES, ByScripts),
     group("The running digest", running::ENGINES, ByScripts),
     group("The small program", program::ENGINES, ByProgram),
     group(
@@ -108,6 +111,9 @@ pub fn table() -> String {
     }
     text += &title("The book");
     text.extend(BOOKS.iter().map(|book| row(book.name, book.says)));
+    text += &title("The program replay");
+    let replayers = REPLAYERS.iter().chain([&HOARDER]);
+    text.extend(replayers.map(|wrong| row(wrong.name, wrong.says)));
     text
 }
 

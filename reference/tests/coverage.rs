@@ -67,6 +67,7 @@ fn the_first_scripts_reach_everything() {
     // 1 at a store is out of a script's reach: an image takes the work along.
     assert_eq!(numbers('S'), [0, 9]);
     assert_eq!(numbers('A'), [0, 7, 8, NONE_IN_HAND]);
+    assert_eq!(numbers('J'), [0, 7, 23, NONE_IN_HAND]);
     assert_eq!(numbers('f'), [0, 10, 16, 27]);
     assert_eq!(numbers('e'), [0, 27]);
     assert!(seen.kinds.iter().eq(&Sort::ALL));
@@ -130,7 +131,7 @@ fn the_first_scripts_hold_every_length_and_letter() {
         .iter()
         .all(|length| images.contains(length)));
     assert!(tails.iter().any(|letter| !LETTERS.contains(letter)));
-    assert!(b"ICURSAWfw".iter().all(|letter| tails.contains(letter)));
+    assert!(b"ICURSAJWfw".iter().all(|letter| tails.contains(letter)));
 }
 
 /// The bytes of a script but for slices of about the greatest length.
@@ -622,14 +623,21 @@ fn the_inputs_without_a_seed_hold_every_case() {
         ('C', 0),
         ('C', 1),
         ('C', 6),
+        ('J', 0),
+        ('J', 7),
+        ('J', 23),
+        ('J', NONE_IN_HAND),
         ('R', 0),
         ('R', 1),
         ('R', 2),
+        ('R', 3),
         ('R', 4),
+        ('R', 5),
         ('R', 11),
         ('R', 12),
         ('R', 13),
         ('R', number::CHECKSUM),
+        ('R', number::SIGNATURE),
         ('S', 0),
         ('S', 9),
         ('U', 0),

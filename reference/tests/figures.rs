@@ -1,7 +1,9 @@
 //! The papers' figures as they state them. A request that changes one edits it
 //! here and in `layout`.
 
+use reference::book::replay::*;
 use reference::generate::{FORMER_NODES, FORMER_WORDS};
+use reference::journal::*;
 use reference::layout::*;
 use reference::mailbox::BOOTED_WITH;
 use reference::sha384::BLOCK_BYTES;
@@ -75,6 +77,17 @@ fn an_extension() {
     assert_eq!((EXTEND_REGISTER, EXTEND_DIGEST), (4, 8));
     assert_eq!((register(4), register(30)), (64, 376));
     assert_eq!((number::REGISTER, number::OFF), (12, 13));
+}
+
+#[test]
+fn the_journal() {
+    assert_eq!((COLD_ENTRY, UPDATE_ENTRY, DISABLING_ENTRY), (1, 2, 3));
+    assert_eq!((STASH_ENTRY, EXTENSION_ENTRY), (4, 5));
+    assert_eq!((number::KIND, number::GROUPS, number::CUT), (20, 21, 22));
+    assert_eq!((number::ENTRY_BUFFER, number::UNCOUNTED), (23, 24));
+    assert_eq!((IMAGE_BYTES, JOURNAL_BYTES), (6_080, 4_294_967_296));
+    assert_eq!([NOT_BOOTED, SWITCHED_OFF, UNLIKE, ALIKE], [0, 1, 2, 3]);
+    assert_eq!(4 * (NODES_AT - COMPARED_FROM), 1_440);
 }
 
 #[test]

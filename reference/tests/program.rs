@@ -103,6 +103,61 @@ fn the_small_program_passes() {
     assert!(output.status.success());
 }
 
+/// What a replay's campaign prints, and its status.
+fn replayed(folder: &str, words: &str) -> (String, Option<i32>) {
+    let engine = program(folder, words);
+    let keep = self::folder(folder).to_string_lossy().into_owned();
+    let output = reference(&[
+        "replay-campaign",
+        "--engine",
+        &engine,
+        "--count",
+        "300",
+        "--entries",
+        "20000",
+        "--keep",
+        &keep,
+    ]);
+    (text(&output.stdout), output.status.code())
+}
+
+#[test]
+fn a_right_replay_passes() {
+    let (shown, status) = replayed("right-replay", "replay");
+    let last = shown.lines().last().unwrap_or("");
+    assert!(
+        last.ends_with(" inputs, 20000 entries, 0 differences"),
+        "{shown}"
+    );
+    assert_eq!(status, Some(0));
+}
+
+#[test]
+fn a_wrong_replay_is_shown_and_its_input_kept() {
+    let (shown, status) = replayed("wrong-replay", "replay OffsetIsCount");
+    assert_eq!(status, Some(1), "{shown}");
+    let kept = shown.lines().find_map(|line| line.strip_prefix("kept in "));
+    let input = fs::read(kept.expect("an input is kept")).expect("it is there");
+    assert!(input.len() > 6_080, "{}", input.len());
+    assert!(shown.contains("reference: 12 bytes: number 2"), "{shown}");
+}
+
+#[test]
+fn a_replay_that_keeps_the_journal_is_told() {
+    let (shown, status) = replayed("hoarder", "replay Hoarder");
+    assert_eq!(status, Some(1), "{shown}");
+    assert!(
+        shown.ends_with("the memory grows with the journal\n"),
+        "{shown}"
+    );
+}
+
+#[test]
+fn a_replay_that_does_not_read_is_told() {
+    let (shown, status) = replayed("play", "play");
+    assert_eq!(status, Some(1), "{shown}");
+}
+
 #[test]
 fn wrong_words_are_refused() {
     for words in [
@@ -111,6 +166,10 @@ fn wrong_words_are_refused() {
         &["campaign", "--engine"],
         &["script", "x"],
         &["play", "NoSuchEngine"],
+        &["replay", "NoSuchReplayer"],
+        &["replay-campaign"],
+        &["replay-campaign", "--engine", REFERENCE, "--count", "0"],
+        &["replay-campaign", "--engine", REFERENCE, "--entries", "0"],
         &["wrong", "--size", "3"],
         &["wrong", "--count", "0"],
         &["campaign", "--engine", REFERENCE, "--count", "0"],

@@ -42,6 +42,11 @@ int main()
     while (waggleloft_store(work.data(), work.size(), image.data(), image.size()) == WAGGLELOFT_OK)
         stores++;
     check(stores == image.size() + 1, "stores of a cold boot: every word, and the mark twice");
+    std::array<std::uint8_t, WAGGLELOFT_ENTRY_LONGEST> entry{};
+    std::size_t told = 0;
+    check(waggleloft_entry(work.data(), work.size(), entry.data(), entry.size(), &told) == WAGGLELOFT_OK && told == entry.size() &&
+              entry[0] == 1 && std::memcmp(entry.data() + 1, runtime.data(), runtime.size()) == 0, "the entry of a cold boot");
+    check(waggleloft_entry(work.data(), work.size(), entry.data(), entry.size() - 1, &told) == WAGGLELOFT_SHORT_FOR_ENTRY, "no room for it");
     check(image[WAGGLELOFT_NODES_AT] == 0x00FF0001 && image[WAGGLELOFT_NODES_AT + WAGGLELOFT_NODE_SVN] == 0, "the root and its svn");
     check(waggleloft_open_request(image.data(), image.size(), WAGGLELOFT_DISABLE_ATTESTATION, disable.data(), disable.size(), 0,
                                   none.data(), 0, false, work.data(), work.size()) == WAGGLELOFT_OK, "disable");

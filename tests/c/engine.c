@@ -1,8 +1,8 @@
 /*
  * Calls the engine of include/waggleloft.h from C: every cut of a stash and of an
  * extension, every refusal, what a boot, a stash and an extension measure, the
- * nodes' svn, lists of every node, works of other lengths, and works with damaged
- * words. What a store has to do is computed here from a table of the kinds of work
+ * nodes' svn, lists of every node, journal entries of every kind of work, works of
+ * other lengths, and works with damaged words. What a store has to do is computed here from a table of the kinds of work
  * (KINDS), not asked of the engine. Every buffer is on the heap with its exact
  * length, so that valgrind sees a byte too many. Prints a line for each check that
  * failed and, last, 'N passed, M failed'.
@@ -20,13 +20,14 @@
 #define WORK WAGGLELOFT_WORK_WORDS
 #define DIGEST WAGGLELOFT_SHA384_BYTES
 #define LONGEST WAGGLELOFT_ANSWER_LONGEST
+#define ENTRY WAGGLELOFT_ENTRY_LONGEST
 
 #define NODES WAGGLELOFT_NODES
 #define NODE_WORDS WAGGLELOFT_NODE_WORDS
 
 /* Where each field of a work stands in its words: docs/DECISIONS.md, "C and Rust". */
 enum { KIND_IN = 0, FIRST_IN = 1, SECOND_IN = 3, POSITION_IN = 5, LENGTH_IN = 7, REGISTER_IN = 9, JOURNEY_IN = 21, NODE_IN = 33,
-       SECRET_IN = NODE_IN + NODE_WORDS, ANSWER_IN = SECRET_IN + 12 };
+       SECRET_IN = NODE_IN + NODE_WORDS, ANSWER_IN = SECRET_IN + 12, INPUTS_IN = ANSWER_IN + LONGEST / 4 };
 
 /* Words of the image: a register's first, and a node's. */
 #define PCR(number) (16 + 12 * (number))
@@ -132,6 +133,7 @@ static void *lent(size_t n, size_t size)
 
 static uint32_t *image, *image_before, *work, *work_before;
 static uint8_t *runtime, *manifest, *secret, *request, *buffer, *buffer_before, *none;
+static uint32_t caller = 7;
 
 static void remember(void)
 {
@@ -168,7 +170,7 @@ static uint32_t ask_as_is(uint32_t code, size_t len, const uint8_t *handoff, siz
 {
     uint8_t *bytes = lent(len, 1);
     memcpy(bytes, request, len < LONGEST_REQUEST ? len : LONGEST_REQUEST);
-    uint32_t number = waggleloft_open_request(image, IMAGE, code, bytes, len, 7, handoff, handoff_len, verdict, work, WORK);
+    uint32_t number = waggleloft_open_request(image, IMAGE, code, bytes, len, caller, handoff, handoff_len, verdict, work, WORK);
     free(bytes);
     return number;
 }
@@ -424,6 +426,7 @@ static bool work_refused(size_t len)
     bool all = waggleloft_left(words, len) == 0;
     all = all && waggleloft_store(words, len, image, IMAGE) == WAGGLELOFT_WRONG_WORK;
     all = all && waggleloft_answer(words, len, buffer, LONGEST, &written) == WAGGLELOFT_WRONG_WORK;
+    all = all && waggleloft_entry(words, len, buffer, LONGEST, &written) == WAGGLELOFT_WRONG_WORK;
     all = all && waggleloft_open_cold_boot(image, IMAGE, runtime, DIGEST, none, 0, secret, DIGEST, words, len, &outcome) == WAGGLELOFT_WRONG_WORK;
     all = all && waggleloft_open_update_boot(image, IMAGE, runtime, DIGEST, none, 0, secret, DIGEST, true, words, len, &outcome) == WAGGLELOFT_WRONG_WORK;
     all = all && waggleloft_open_request(image, IMAGE, WAGGLELOFT_DISABLE_ATTESTATION, request, 4, 7, none, 0, false, words, len) == WAGGLELOFT_WRONG_WORK;
@@ -442,6 +445,7 @@ static void check_work_lengths(void)
             all = work_refused(len) && all;
     check(all, "works of every other length get 28, and nothing is written");
     check(work_refused(105), "a work from before the nodes had an svn, of 105 words, gets 28");
+    check(work_refused(106), "a work from before there was a journal, of 106 words, gets 28");
 }
 
 /*
@@ -816,16 +820,18 @@ static void check_words_of_extension(void)
     work_before[FIRST_IN] = 4;
     work_before[LENGTH_IN] = 8;
     memcpy(work_before + REGISTER_IN, image + PCR(5), DIGEST);
-    check(extend(4) == WAGGLELOFT_OK && work_same(), "the words of an extension: kind 5, its register, its value, its answer");
+    memset(work_before + INPUTS_IN, 0x66, DIGEST);
+    check(extend(4) == WAGGLELOFT_OK && work_same(), "the words of an extension: kind 5, its register, its value, its answer, its digest");
 }
 
-/* The work in hand has no store left and no answer, and its refused calls write nothing. */
+/* The work in hand has no store left, no answer and no entry, and its refused calls write nothing. */
 static bool damaged(void)
 {
     size_t written = 99;
     remember();
     return waggleloft_left(work, WORK) == 0 && waggleloft_store(work, WORK, image, IMAGE) == WAGGLELOFT_NO_STORE_LEFT &&
-           waggleloft_answer(work, WORK, buffer, LONGEST, &written) == WAGGLELOFT_STORES_LEFT && written == 99 && image_same() &&
+           waggleloft_answer(work, WORK, buffer, LONGEST, &written) == WAGGLELOFT_STORES_LEFT &&
+           waggleloft_entry(work, WORK, buffer, LONGEST, &written) == WAGGLELOFT_STORES_LEFT && written == 99 && image_same() &&
            work_same() && buffer_same();
 }
 
@@ -957,8 +963,9 @@ static void check_words_of_stash(void)
     work_before[LENGTH_IN] = 12;
     memcpy(work_before + REGISTER_IN, image + PCR(31), DIGEST);
     memcpy(work_before + NODE_IN, image + NODE(1), NODE_WORDS * sizeof *image);
+    memset(work_before + INPUTS_IN, 0x66, DIGEST);
     memcpy(image, image_before, IMAGE * sizeof *image);
-    check(open_svn(0x04030201) && work_same(), "the words of a stash: kind 2, node and old holder, PCR31, the node, its answer");
+    check(open_svn(0x04030201) && work_same(), "the words of a stash: kind 2, node and old holder, PCR31, the node, its answer, its digest");
 }
 
 /* The nodes are not well formed: a stash gets 11, and an update boot of either verdict would disable. */
@@ -1145,6 +1152,262 @@ static void check_wrong_ways(void)
     check(all && switches_off(), "and so on a parent past the last node");
 }
 
+/* ---- journal entries ---- */
+
+/* The bytes of an entry that are expected. */
+struct entry {
+    uint8_t bytes[ENTRY];
+    size_t len;
+};
+
+static void put_byte(struct entry *entry, uint8_t byte) { entry->bytes[entry->len++] = byte; }
+
+static void put_bytes(struct entry *entry, const void *bytes, size_t len)
+{
+    memcpy(entry->bytes + entry->len, bytes, len);
+    entry->len += len;
+}
+
+/* Groups of seven bits, the lowest first. */
+static void put_groups(struct entry *entry, uint32_t number)
+{
+    for (; number > 0x7F; number >>= 7)
+        put_byte(entry, (uint8_t)(number & 0x7FU) | 0x80U);
+    put_byte(entry, (uint8_t)number);
+}
+
+/* The number in four bytes of the request. */
+static uint32_t asked(size_t at)
+{
+    return request[at] | (uint32_t)request[at + 1] << 8 | (uint32_t)request[at + 2] << 16 | (uint32_t)request[at + 3] << 24;
+}
+
+static struct entry boot_entry(uint8_t kind)
+{
+    struct entry entry = {.len = 0};
+    put_byte(&entry, kind);
+    put_bytes(&entry, runtime, DIGEST);
+    put_bytes(&entry, manifest, DIGEST);
+    return entry;
+}
+
+static struct entry stash_entry(void)
+{
+    struct entry entry = {.len = 0};
+    put_byte(&entry, 4);
+    put_groups(&entry, asked(4));
+    put_bytes(&entry, request + 8, DIGEST);
+    put_groups(&entry, asked(56));
+    put_groups(&entry, caller);
+    return entry;
+}
+
+static struct entry extension_entry(uint32_t number)
+{
+    struct entry entry = {.len = 0};
+    put_byte(&entry, 5);
+    put_groups(&entry, number);
+    put_bytes(&entry, request + 8, DIGEST);
+    return entry;
+}
+
+/* The entry of each kind's work as its opening was asked for it. */
+static struct entry entry_asked(uint32_t kind)
+{
+    struct entry entry = {.len = 0};
+    switch (kind) {
+    case COLD: return boot_entry(1);
+    case UPDATE: return boot_entry(2);
+    case STASH: return stash_entry();
+    case EXTENSION: return extension_entry(EXTENDED);
+    case DISABLING: put_byte(&entry, 3); return entry;
+    default: return entry;
+    }
+}
+
+/* The entry that the words of a finished work have: its kind's, by the fields that stand in work_before. */
+static struct entry entry_in_words(void)
+{
+    const uint32_t *node = work_before + NODE_IN, *inputs = work_before + INPUTS_IN;
+    struct entry entry = {.len = 0};
+    switch (work_before[KIND_IN]) {
+    case COLD: put_byte(&entry, 1); put_bytes(&entry, inputs, 2 * DIGEST); break;
+    case UPDATE: put_byte(&entry, 2); put_bytes(&entry, inputs, 2 * DIGEST); break;
+    case DISABLING: put_byte(&entry, 3); break;
+    case STASH:
+        put_byte(&entry, 4);
+        put_groups(&entry, node[TYPE]);
+        put_bytes(&entry, inputs, DIGEST);
+        put_groups(&entry, node[SVN]);
+        put_groups(&entry, node[LOCALITY]);
+        break;
+    case EXTENSION: put_byte(&entry, 5); put_groups(&entry, work_before[FIRST_IN]); put_bytes(&entry, inputs, DIGEST); break;
+    default: break;
+    }
+    return entry;
+}
+
+/* An entry refused leaves all; one that is given is in the front of a buffer of that length. */
+static bool entry_holds(size_t len, uint32_t number, const struct entry *expected)
+{
+    size_t written = 99;
+    uint8_t *out = lent(len, 1), *before = lent(len, 1);
+    fill_bytes(out, len);
+    memcpy(before, out, len);
+    remember();
+    bool holds = waggleloft_entry(work, WORK, out, len, &written) == number && work_same() && image_same();
+    if (number == WAGGLELOFT_OK)
+        holds = holds && written == expected->len && memcmp(out, expected->bytes, written) == 0 &&
+                memcmp(out + written, before + written, len - written) == 0;
+    else
+        holds = holds && written == 99 && memcmp(out, before, len) == 0;
+    free(out);
+    free(before);
+    return holds;
+}
+
+/* The finished work in hand has that entry: buffers of every length, and once more. */
+static bool entry_is(const struct entry *expected)
+{
+    bool all = true;
+    for (size_t len = 0; len <= ENTRY + 3; len++)
+        all = entry_holds(len, len < expected->len ? WAGGLELOFT_SHORT_FOR_ENTRY : WAGGLELOFT_OK, expected) && all;
+    return entry_holds(expected->len, WAGGLELOFT_OK, expected) && all;
+}
+
+/* Every kind of work, one after the other: 7 before its last store, whatever the buffer, then its entry. */
+static void check_entries(void)
+{
+    static const uint32_t order[] = {COLD, STASH, EXTENSION, UPDATE, NOTHING, DISABLING};
+    fill_words(image, IMAGE);
+    fill_bytes(request, LONGEST_REQUEST);
+    for (size_t k = 0; k < COUNT(order); k++) {
+        bool all = KINDS[order[k]].open();
+        struct entry entry = entry_asked(order[k]);
+        for (size_t made = 0; made < KINDS[order[k]].stores; made++) {
+            all = entry_holds(0, WAGGLELOFT_STORES_LEFT, &entry) && entry_holds(ENTRY, WAGGLELOFT_STORES_LEFT, &entry) && all;
+            all = run(1) == 1 && all;
+        }
+        check_kind(all && entry_is(&entry), "the entry of", order[k]);
+    }
+    check(boot_entry(1).len == ENTRY, "a boot's entry is the longest");
+}
+
+/* What has nothing to store has an entry of no bytes, in any buffer. */
+static void check_no_entries(void)
+{
+    uint8_t handoff[2048] = {'C', 'F', 'H', 'T', 1};
+    const struct entry nothing = {.len = 0};
+    fresh();
+    check(open_kept() && entry_is(&nothing), "no entry of a kept boot");
+    check(ask_with(WAGGLELOFT_IDENTITY_KEY, 4, handoff, sizeof handoff, false) == WAGGLELOFT_OK && entry_is(&nothing), "nor of an identity key");
+    check(ask_with(WAGGLELOFT_VERIFY_SIGNATURE, 196, none, 0, true) == WAGGLELOFT_OK && entry_is(&nothing), "nor of a fine signature");
+    check(filled(NODES) && open_stash() && entry_is(&nothing), "nor of a stash that is declined for want of a node");
+    check(open_disabling() && run(SIZE_MAX) == DISABLING_STORES && open_stash() && entry_is(&nothing), "nor of one that is declined while off");
+}
+
+/* A disabling has one entry, whether a command or a boot began it. */
+static void check_entry_of_disabling(void)
+{
+    const struct entry disabling = {{3}, 1};
+    uint32_t outcome = 99;
+    fresh();
+    check(open_disabling() && run(SIZE_MAX) == DISABLING_STORES && entry_is(&disabling), "the entry of a disable command");
+    fresh();
+    bool torn = open_stash() && run(20) == 20;
+    check(torn && update_boot(true, &outcome) == WAGGLELOFT_OK && outcome == WAGGLELOFT_DISABLED && run(SIZE_MAX) == DISABLING_STORES &&
+              entry_is(&disabling),
+          "the entry of a boot that disables");
+}
+
+/* Type, svn and caller at the borders of a number's groups. */
+static void check_numbers_of_entries(void)
+{
+    static const uint32_t numbers[] = {0, 1, 0x7F, 0x80, 300, 0x3FFF, 0x4000, 0x1FFFFF, 0x200000, 0xFFFFFFF, 0x10000000, UINT32_MAX};
+    bool all = true;
+    for (size_t i = 0; i < COUNT(numbers); i++) {
+        for (size_t field = 0; field < 3; field++) {
+            fresh();
+            put_number(4, field == 0 ? numbers[i] : 5);
+            put_number(56, field == 1 ? numbers[i] : 6);
+            caller = field == 2 ? numbers[i] : 7;
+            struct entry entry = stash_entry();
+            all = open_stash() && run(SIZE_MAX) == STASH_STORES && entry_is(&entry) && all;
+        }
+    }
+    check(all, "type, svn and caller of an entry, at every length of a number");
+    caller = 300;
+    put_number(56, 0x4000);
+    fresh();
+    struct entry entry = stash_entry();
+    check(open_stash() && run(SIZE_MAX) == STASH_STORES && entry_is(&entry) && memcmp(entry.bytes + entry.len - 5, "\x80\x80\x01\xAC\x02", 5) == 0,
+          "svn 0x4000 is 80 80 01, caller 300 is AC 02, in this order");
+    caller = 7;
+}
+
+/* Registers 4 to 30; one that is moved within them is told as it stands, one outside leaves no entry. */
+static void check_registers_of_entries(void)
+{
+    bool all = true;
+    for (uint32_t number = 4; number <= 30; number++) {
+        struct entry entry = extension_entry(number);
+        fresh();
+        all = extend(number) == WAGGLELOFT_OK && run(SIZE_MAX) == EXTENSION_STORES && entry_is(&entry) && all;
+    }
+    check(all, "the entry of an extension of registers 4 to 30");
+    all = open_extension() && run(SIZE_MAX) == EXTENSION_STORES;
+    work[FIRST_IN] = 30;
+    struct entry moved = extension_entry(30);
+    check(all && entry_is(&moved), "a register that is moved within 4 to 30 is told as it stands");
+    work[FIRST_IN] = 31;
+    check(entry_holds(ENTRY, WAGGLELOFT_STORES_LEFT, &moved) && entry_holds(0, WAGGLELOFT_STORES_LEFT, &moved), "outside there is no entry");
+}
+
+/* An entry taken before the first store: of a copy, whose stores go to another image. */
+static void check_entries_beforehand(void)
+{
+    static const uint32_t order[] = {COLD, STASH, EXTENSION, UPDATE, DISABLING};
+    uint32_t *scratch = lent(IMAGE, sizeof *scratch), *copy = lent(WORK, sizeof *copy);
+    fresh();
+    for (size_t k = 0; k < COUNT(order); k++) {
+        struct entry expected = entry_asked(order[k]);
+        uint8_t entry[ENTRY];
+        size_t written = 0;
+        bool all = KINDS[order[k]].open();
+        memcpy(copy, work, WORK * sizeof *work);
+        remember();
+        fill_words(scratch, IMAGE);
+        while (waggleloft_store(copy, WORK, scratch, IMAGE) == WAGGLELOFT_OK)
+            continue;
+        all = all && waggleloft_entry(copy, WORK, entry, ENTRY, &written) == WAGGLELOFT_OK && written == expected.len &&
+              memcmp(entry, expected.bytes, written) == 0 && work_same() && image_same();
+        check_kind(all && run(SIZE_MAX) == KINDS[order[k]].stores && entry_is(&expected), "an entry beforehand of", order[k]);
+    }
+    free(scratch);
+    free(copy);
+}
+
+/* An entry of a boot that only its digests decide. */
+static bool secret_untold(bool (*open)(void), uint8_t kind)
+{
+    bool all = true;
+    for (int i = 0; i < 2; i++) {
+        fill_bytes(secret, DIGEST);
+        struct entry entry = boot_entry(kind);
+        all = open() && run(SIZE_MAX) > 0 && entry_is(&entry) && all;
+        for (size_t at = 0; at + 4 <= entry.len; at++)
+            for (size_t from = 0; from + 4 <= DIGEST; from++)
+                all = memcmp(entry.bytes + at, secret + from, 4) != 0 && all;
+    }
+    return all;
+}
+
+static void check_secret_of_entries(void)
+{
+    check(secret_untold(open_cold, 1), "the entry of a cold boot tells nothing of the secret");
+    check(secret_untold(open_update, 2), "nor does that of an update");
+}
+
 /* ---- refused requests and damaged works ---- */
 
 static bool request_refused(uint32_t code, size_t len, uint32_t number)
@@ -1192,20 +1455,31 @@ static void check_refused_requests(void)
     check(ask(WAGGLELOFT_STASH_MEASUREMENT, 60) == WAGGLELOFT_NOT_WELL_FORMED && work_same(), "nodes that are not well formed");
 }
 
-/* Works of any words: what a store does, what is left, and an answer. */
-static bool damaged_holds(void)
+/* The answer of a work of any words, told in work_before; `finished` if it is well shaped with no store left. */
+static bool damaged_answer_holds(bool finished)
 {
     size_t written = 99;
-    if (!store_holds())
-        return false;
-    remember();
-    bool finished = well_shaped() && left() == 0;
     uint64_t length = two(LENGTH_IN);
     uint32_t number = waggleloft_answer(work, WORK, buffer, LONGEST, &written);
     if (!finished)
         return number == WAGGLELOFT_STORES_LEFT && written == 99 && buffer_same() && work_same();
     return number == WAGGLELOFT_OK && written == length && work_same() &&
            memcmp(buffer, &work_before[ANSWER_IN], length) == 0 && memcmp(buffer + length, buffer_before + length, LONGEST - length) == 0;
+}
+
+/* Works of any words: what a store does, what is left, an answer and an entry. */
+static bool damaged_holds(void)
+{
+    struct entry entry = {.len = 0};
+    if (!store_holds())
+        return false;
+    remember();
+    bool finished = well_shaped() && left() == 0;
+    if (!damaged_answer_holds(finished))
+        return false;
+    if (finished)
+        entry = entry_in_words();
+    return entry_holds(ENTRY, finished ? WAGGLELOFT_OK : WAGGLELOFT_STORES_LEFT, &entry);
 }
 
 /* A number, one below and one above. */
@@ -1291,6 +1565,13 @@ int main(void)
     check_longest_chain();
     check_mirrored();
     check_wrong_ways();
+    check_entries();
+    check_no_entries();
+    check_entry_of_disabling();
+    check_numbers_of_entries();
+    check_registers_of_entries();
+    check_entries_beforehand();
+    check_secret_of_entries();
     check_refused_requests();
     check_damaged_works();
 

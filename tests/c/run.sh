@@ -8,6 +8,7 @@ set -euo pipefail
 cd "$(dirname "${BASH_SOURCE[0]}")/../.."
 . tests/expect.sh
 . tests/digests.sh
+. tests/unit.sh
 archive=target/staticlib/libwaggleloft.a
 built=target/c
 [ -f "$archive" ] || { echo "$archive is not there: run 'rt staticlib waggleloft' first"; exit 1; }
@@ -74,6 +75,20 @@ list_with=$(printf '%s\n  node 1  HOUR  %.12s..  svn 300' "$list_without" "$(of 
 # What the example of the gearbox maker prints of a register: zero extended by the digest of his program.
 register_value=$(extended "$zero" "$(of 'shifts gears')")
 
+# What the example of a journal leaves: the unit made by hand, without its secret.
+new_unit
+cold_boot "${boots[@]}"
+stash $((0x52554F48)) "$(of 'counts hours')" 300 1 # HOUR
+extension 4 "$(of 'shifts gears')"
+update "$(of 'the next runtime')" "$(of 'its manifest too')"
+stash $((0x54534552)) "$(of 'counts rest')" 1 1 # REST
+save_unit "$built/unit"
+
+# Whether the example's image and journal are these.
+same_unit() {
+    cmp "$built/kept.image" "$built/unit.image" && cmp "$built/kept.journal" "$built/unit.journal" && echo same
+}
+
 # All examples; COMMAND comes before each program.
 run_examples() { # SUFFIX COMMAND..
     local suffix=$1 bytes register
@@ -84,6 +99,9 @@ run_examples() { # SUFFIX COMMAND..
         expect "gearbox$suffix $register" 'the extension was refused with number 12'$'\n''status 1' \
             "$(refused "$@" "$built/gearbox$suffix" "$register")"
     done
+    "$@" "$built/journal$suffix" "$built/kept.image" "$built/kept.journal"
+    expect "journal$suffix" same "$(same_unit)"
+    rm "$built/kept.image" "$built/kept.journal"
     for bytes in 0 1 4096 65535 65536 1000000; do pieces "$suffix" "$bytes" "$@"; done
     expect "boot$suffix" "$(printf abc | sha384sum | cut -d' ' -f1)"$'\n'FFFFFEDB "$("$@" "$built/boot$suffix")"
     expect "midnight$suffix 0" 'Attestation is on. The new measurement is not in the list, and all earlier ones are.' \
@@ -121,6 +139,10 @@ expect 'midnight without a number' 'status 2' "$(refused "$built/midnight")"
 expect 'midnight with a store too many' 'status 2' "$(refused "$built/midnight" $((stash_stores + 1)))"
 expect 'gearbox with no number' 'status 2' "$(refused "$built/gearbox" four)"
 expect 'gearbox with 2^32 + 4' 'status 2' "$(refused "$built/gearbox" 4294967300)"
+expect 'journal without files' 'status 2' "$(refused "$built/journal")"
+expect 'journal in no folder' 'status 1' "$(refused "$built/journal" "$built/none/image" "$built/none/journal")"
+expect 'journal with an image on a full disk' 'status 1' "$(refused "$built/journal" /dev/full "$built/kept.journal")"
+expect 'journal on a full disk' 'status 1' "$(refused "$built/journal" "$built/kept.image" /dev/full)"
 expect 'pieces of no file' 'status 1' "$(refused "$built/pieces" "$built/none")"
 expect 'pieces of a folder' 'status 1' "$(refused "$built/pieces" "$built")"
 expect 'pieces of two files' 'status 2' "$(refused "$built/pieces" "$built/image" "$built/image")"

@@ -59,6 +59,13 @@ extern "C" {
         buffer_len: usize,
         written: *mut usize,
     ) -> u32;
+    fn waggleloft_entry(
+        work: *const u32,
+        work_len: usize,
+        buffer: *mut u8,
+        buffer_len: usize,
+        written: *mut usize,
+    ) -> u32;
     fn waggleloft_sha384(
         message: *const u8,
         message_len: usize,
@@ -158,6 +165,10 @@ pub fn store(work: &mut [u32; WORK_WORDS], image: &mut [u32]) -> u32 {
 
 pub fn answer(work: &[u32; WORK_WORDS], buffer: &mut [u8], written: &mut usize) -> u32 {
     call!(waggleloft_answer, read work, write buffer, value written)
+}
+
+pub fn entry(work: &[u32; WORK_WORDS], buffer: &mut [u8], written: &mut usize) -> u32 {
+    call!(waggleloft_entry, read work, write buffer, value written)
 }
 
 pub fn sha384(message: &[u8], buffer: &mut [u8]) -> u32 {

@@ -3,8 +3,8 @@
 //!
 //! The unit's memory is an image of [`IMAGE_WORDS`] words that the caller holds. An opening, of a boot
 //! or of a mailbox request, reads the image and prepares a [`Work`]; the work is then run one store at
-//! a time, and at the end its answer is taken. Between two stores anything may happen, a loss of power
-//! too.
+//! a time, and at the end its answer and its journal entry are taken. Between two stores anything may
+//! happen, a loss of power too.
 //!
 //! [`sha384`] is the digest of a message in one piece, [`Sha384`] that of one which comes in slices.
 //!
@@ -47,9 +47,11 @@ pub use work::{BootInputs, Outcome, Request, Work};
 /// [`Refusal::WrongImage`]. One of an earlier version, of 1,216 or 1,240 words, is refused so and not carried over.
 pub const IMAGE_WORDS: usize = 1520;
 /// Words of a work. It may grow with a later version.
-pub const WORK_WORDS: usize = 106;
+pub const WORK_WORDS: usize = 130;
 /// The longest answer, in bytes: a buffer of so many bytes takes every answer.
 pub const ANSWER_LONGEST: usize = 104;
+/// The longest journal entry, in bytes: a buffer of so many bytes takes every entry.
+pub const ENTRY_LONGEST: usize = 97;
 /// Bytes of a SHA-384 digest.
 pub const SHA384_BYTES: usize = 48;
 /// The longest message, in bytes, that [`sha384`] takes, and the longest slice of a [`Sha384`].

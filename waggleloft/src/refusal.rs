@@ -55,8 +55,8 @@ refusals! {
     WrongHandoff = 5, "the handoff table is wrong";
     /// one of [`BootInputs`](crate::BootInputs) not 48 bytes, or the secret all zero.
     WrongInput = 6, "a digest or the secret is not 48 bytes, or the secret is zero";
-    /// no answer before the last store.
-    StoresLeft = 7, "stores are left, so there is no answer yet";
+    /// no answer and no entry before the last store.
+    StoresLeft = 7, "stores are left, so there is no answer and no entry yet";
     /// the buffer is shorter than the answer or the digest.
     ShortBuffer = 8, "the buffer is too short";
     /// the work has no store left, or its words are damaged.
@@ -71,6 +71,16 @@ refusals! {
     AttestationOff = 13, "attestation is off";
     /// all slices together would pass [`SHA384_TOTAL_LONGEST`](crate::SHA384_TOTAL_LONGEST) bytes.
     LongTotal = 16, "the slices together are longer than 2^32 - 1 bytes";
+    /// a journal's entry is of a kind that is not listed (the program `replay`).
+    UnknownKind = 20, "the kind of a journal's entry is not listed";
+    /// a number of a journal's entry is too long or too large (the program `replay`).
+    WrongNumber = 21, "a number of a journal's entry is too long or too large";
+    /// a journal ends inside an entry (the program `replay`).
+    CutEntry = 22, "the journal ends inside an entry";
+    /// the buffer is shorter than the journal entry.
+    ShortForEntry = 23, "the buffer is too short for the journal entry";
+    /// the unit could not have counted a journal's entry there (the program `replay`).
+    ImpossibleEntry = 24, "the unit could not have counted this journal's entry there";
     /// the counts in a running digest's state disagree, or its total is too large.
     WrongCounts = 27, "the state's counts disagree or its total is too large";
     /// the archive was built for works, or for states of a running digest, of another length.

@@ -1,4 +1,4 @@
-//! A work: its openings, stores and answer.
+//! A work: its openings, stores, answer and journal entry.
 
 use core::fmt;
 
@@ -84,7 +84,7 @@ impl Work {
     }
 
     /// The work that any words are. Words that no opening made are safe: a work of damaged words has
-    /// no store left and no answer.
+    /// no store left, no answer and no entry.
     pub const fn from_words(words: [u32; WORK_WORDS]) -> Self {
         Self { words }
     }
@@ -167,6 +167,17 @@ impl Work {
     pub fn answer(&self, buffer: &mut [u8]) -> Result<usize, Refusal> {
         let mut written = 0;
         Refusal::check(archive::answer(&self.words, buffer, &mut written))?;
+        Ok(written)
+    }
+
+    /// Takes the journal entry, after the last store, into the front of a buffer: its length. The buffer's
+    /// other bytes stay. Entries joined in the order of their works are the unit's journal; that of a work
+    /// with nothing to store has no bytes. It never holds the secret.
+    ///
+    /// Refused, with nothing written: [`Refusal::StoresLeft`], then [`Refusal::ShortForEntry`].
+    pub fn entry(&self, buffer: &mut [u8]) -> Result<usize, Refusal> {
+        let mut written = 0;
+        Refusal::check(archive::entry(&self.words, buffer, &mut written))?;
         Ok(written)
     }
 }

@@ -39,8 +39,12 @@ fn camel(name: &str) -> String {
 
 #[test]
 fn every_refusal_has_the_headers_name_and_number() {
-    let numbers = macros("Numbers that the functions hand back");
+    let mut numbers = macros("Numbers that the functions hand back");
     assert_eq!(numbers[0], ("OK", 0));
+    let replays = macros("Numbers of the program replay, which reads a journal");
+    let of_replay: Vec<u64> = replays.iter().map(|(_, number)| *number).collect();
+    assert_eq!(of_replay, [20, 21, 22, 24]);
+    numbers.extend(replays);
     for &(name, number) in &numbers[1..] {
         let refusal = Refusal::from_number(u32::try_from(number).expect("32 bits"));
         // Works and states of another length share a number.
@@ -75,6 +79,7 @@ fn every_size_is_the_headers() {
         ("IMAGE_WORDS", waggleloft::IMAGE_WORDS as u64),
         ("WORK_WORDS", waggleloft::WORK_WORDS as u64),
         ("ANSWER_LONGEST", waggleloft::ANSWER_LONGEST as u64),
+        ("ENTRY_LONGEST", waggleloft::ENTRY_LONGEST as u64),
         ("SHA384_BYTES", waggleloft::SHA384_BYTES as u64),
         ("SHA384_LONGEST", waggleloft::SHA384_LONGEST as u64),
         ("SHA384_STATE_BYTES", waggleloft::SHA384_STATE_BYTES as u64),

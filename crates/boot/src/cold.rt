@@ -5,6 +5,7 @@ ghost use Rattle.opening.specs.Works.{coldValues};
 ghost use Rattle.opening.specs.Openings.{bootNumber, outcomeIn, openColdBoot, coldBooted};
 ghost use Rattle.boot.specs.Given.{given};
 use crate::inputs::Inputs;
+use crate::inputs::digests_of;
 use crate::inputs::extend_by_boot;
 use crate::inputs::inputs_of;
 use crate::inputs::inputs_ok;
@@ -32,7 +33,7 @@ const ROOT_LOCALITY: u32 = 0;
 
 const ROOT_SVN: u32 = 0;
 
-// The words that a cold boot will store.
+// The words that a cold boot will store, and the digests that its entry tells.
 fn cold_values(x: Inputs) -> Values
     ensures { λ r. ⌜ r ≡ coldValues (given x) ⌝ }
 {
@@ -51,11 +52,13 @@ fn cold_values(x: Inputs) -> Values
     );
     let secret = x.secret;
     let words = pack(&secret, 0);
+    let inputs = digests_of(x);
     Values {
         register,
         journey: register,
         node,
         secret: words,
+        inputs,
     }
 }
 

@@ -14,6 +14,7 @@ ghost use Rattle.opening.specs.Works.{workAt, updateValues};
 ghost use Rattle.opening.specs.Openings.{bootNumber, outcomeIn, rootMatches, intact, openUpdateBoot};
 ghost use Rattle.boot.specs.Given.{given};
 use crate::inputs::Inputs;
+use crate::inputs::digests_of;
 use crate::inputs::extend_by_boot;
 use crate::inputs::inputs_of;
 use crate::inputs::inputs_ok;
@@ -83,7 +84,7 @@ fn root_row(image: &[u32], root: usize, journey: [u8; 48]) -> [u32; NODE_WORDS]
     measurements_row(journey, extend(before, journey))
 }
 
-// The words that an update will store.
+// The words that an update will store, and the digests that its entry tells.
 fn update_values(image: &[u32], root: usize, x: Inputs) -> Values
     requires { ⌜ (root ≤ nodeCount) × (root ≡ rootIn nodeCount (treeIn (now image))) ⌝ }
     ensures { λ r. ⌜ r ≡ updateValues (given x) (now (image .entry)) ⌝ }
@@ -95,11 +96,13 @@ fn update_values(image: &[u32], root: usize, x: Inputs) -> Values
     let node = root_row(image, root, journey);
     let secret = x.secret;
     let kept = pack(&secret, 0);
+    let inputs = digests_of(x);
     Values {
         register,
         journey: words,
         node,
         secret: kept,
+        inputs,
     }
 }
 

@@ -1,6 +1,6 @@
 -- What is asked of each command (that its answer fits, that its rules see only what they may, that what it does can be opened), as one record of laws: the
 -- only place where a proof above goes by the command. Assumes nothing.
-use Prim.Native.Nat.{ℕ, _≤_, _<_}
+use Prim.Native.Nat.{ℕ, _+_, _≤_, _<_}
 use native.Mathlib.Nat.{not-suc-le-zero}
 use native.Mathlib.Omega.{arith}
 use mathlib.Core.Path.{_≡_, refl, sym, ap, _∙_}
@@ -9,8 +9,9 @@ use mathlib.Core.Bool.{Bool, true, false, cond, not, true≢false}
 use mathlib.Core.List.{List, [], _∷_}
 use mathlib.Core.Option.{none}
 use lib.Dec.{eqb, leb}
-use lib.ListN.{length, take, drop, length-take}
-use borrow.Author.Tests.{lt-ltb, leb-false}
+use lib.ListN.{length, take, drop, length-take, length-drop}
+use lib.Seq.{length-take-le}
+use borrow.Author.Tests.{lt-ltb, leb-false, eqb-true}
 use Rattle.layout.specs.Sizes.{nodeCount, answerMax, extendable}
 use Rattle.layout.specs.Words.{bytes4}
 use Rattle.layout.specs.Refusals.{notWellFormed}
@@ -18,9 +19,10 @@ use Rattle.tree.specs.Tree.{Tree, wellFormed, lowestFree, nodeWith, defaultWord
 use Rattle.tree.proofs.WellFormed.{holder-only}
 use Rattle.table.specs.Table.{numberOf, indexOk}
 use Rattle.opening.specs.Tasks.{Request, Task, noStores, View}
-use Rattle.opening.specs.Rules.{Verdict, refuse, decline, Rule, Command, stashMeasurement, disableAttestation, identityKey, verifySignature, extendRegister, unknownCommand, commandOf, stashCode, disableCode, identityCode, verifyCode, extendCode, extensionIn, answerOf, ruled}
+use Rattle.opening.specs.Rules.{Verdict, refuse, decline, Rule, Command, stashMeasurement, disableAttestation, identityKey, verifySignature, extendRegister, unknownCommand, commandOf, stashCode, disableCode, identityCode, verifyCode, extendCode, stashLength, extendLength, extensionIn, answerOf, ruled}
 use Rattle.opening.specs.Works.{factsOf}
 use Rattle.opening.proofs.Decided.{NoneApply, negated}
+use Rattle.opening.proofs.Recorded.{Told}
 
 -- ---- refusal 11
 
@@ -62,6 +64,8 @@ pub record CommandLaw (c : Command) : Type 0 where
   -- 11 is refused only while on, where the nodes are not well formed
   pub no-11 : (v : View) (r : Request) → (v .on ≡ true → wellFormed nodeCount (v .nodes) ≡ true) → No11 (c .rules v r)
   pub serves : (v : View) (r : Request) → NoneApply (c .rules v r) → Served v (c .task r)
+  -- the digests of what it does have 48 bytes
+  pub told : (r : Request) → c .lengthOk (r .bytes) ≡ true → Told (c .task r)
 
 -- checksum and status, eight bytes, and at most the two halves of a key
 short : (rest : List ℕ) → length rest ≤ 96 → length (answerOf rest) ≤ answerMax
@@ -70,6 +74,10 @@ short rest h = omega arith
 
 pub declined-short : (n : ℕ) → length (answerOf (bytes4 n)) ≤ answerMax
 declined-short n = short (bytes4 n) (omega arith)
+
+-- the digest of a stash's or an extension's request
+digest-long : (l : List ℕ) (n : ℕ) → length l ≡ n → 8 + 48 ≤ n → length (take 48 (drop 8 l)) ≡ 48
+digest-long l n e h = length-take-le 48 (drop 8 l) (omega (arith, length-drop 8 l))
 
 -- nothing to store
 idle : (v : View) → Served v noStores
@@ -98,6 +106,7 @@ stash-law =
             request = refl;
             steady = λ o. absurd (true≢false (sym (negated (v .on) (n .0)) ∙ o));
           };
+      told = λ r e. digest-long (r .bytes) stashLength (eqb-true (length (r .bytes)) stashLength e) (omega arith);
     }
 
 disable-law : CommandLaw disableAttestation
@@ -109,6 +118,7 @@ disable-law =
       no-11 = λ v r f. tt;
       serves = λ v r n.
           record { index = refl; request = refl; steady = λ o. record { same = λ a b. refl; index = λ a. refl; quiet = λ a p. refl } };
+      told = λ r e. tt;
     }
 
 identity-law : CommandLaw identityKey
@@ -118,6 +128,7 @@ identity-law =
       blind = λ r d s t. refl;
       no-11 = λ v r f. (λ e z. omega arith, λ e. tt);
       serves = λ v r n. idle v;
+      told = λ r e. tt;
     }
 
 verify-law : CommandLaw verifySignature
@@ -127,6 +138,7 @@ verify-law =
       blind = λ r d s t. refl;
       no-11 = λ v r f. (λ e z. omega arith, λ e. tt);
       serves = λ v r n. idle v;
+      told = λ r e. tt;
     }
 
 -- an extension rests on its register, and is served only while on
@@ -143,11 +155,12 @@ extend-law =
             request = refl;
             steady = λ o. absurd (true≢false (sym (negated (v .on) (n .1 .0)) ∙ o));
           };
+      told = λ r e. digest-long (r .bytes) extendLength (eqb-true (length (r .bytes)) extendLength e) (omega arith);
     }
 
 unknown-law : CommandLaw unknownCommand
 unknown-law =
-    record { short = λ r. short [] (omega arith); blind = λ r d s t. refl; no-11 = λ v r f. tt; serves = λ v r n. idle v }
+    record { short = λ r. short [] (omega arith); blind = λ r d s t. refl; no-11 = λ v r f. tt; serves = λ v r n. idle v; told = λ r e. tt }
 
 -- of whatever command a code has
 pub command-law : (code : ℕ) → CommandLaw (commandOf code)

@@ -1,4 +1,4 @@
-// The operations that are acts of the machine: openings, stores, answers and cuts.
+// The operations that are acts of the machine: openings, stores, answers, journal entries and cuts.
 ghost use mathlib.Core.Path.{_≡_};
 ghost use lib.ListN.{length};
 ghost use Rattle.driver.specs.Run.{Whole};
@@ -41,11 +41,11 @@ fn act(given: Operation, input: &[u8], image: &mut [u32], hand: InHand, buffer: 
     )
 }
 
-// Writes what an act reports.
-fn reported(made: Made, buffer: &[u8]) -> Operated {
+// Writes what an act of a kind reports.
+fn reported(kind: u8, made: Made, buffer: &[u8]) -> Operated {
     let report = made.report;
     let after = made.hand;
-    done(after, put_report(report, buffer))
+    done(after, put_report(kind, report, buffer))
 }
 
 // An act, and what it reports.
@@ -59,10 +59,10 @@ fn act_into(
     requires { ⌜ Whole (length (now input)) given ⌝ }
 {
     let made = act(given, input, image, hand, buffer);
-    reported(made, buffer)
+    reported(given.kind, made, buffer)
 }
 
-// A buffer for the longest answer that may be asked for. The `ensures` gives only the length, which
+// A buffer for the longest answer or entry that may be asked for. The `ensures` gives only the length, which
 // lending it needs.
 fn untouched() -> [u8; 65536]
     ensures { λ r. ⌜ 65536 ≡ length r ⌝ }
@@ -70,7 +70,7 @@ fn untouched() -> [u8; 65536]
     [0xA5; 65536]
 }
 
-// An opening, an answer or a cut. Only an answer's buffer has a size.
+// An opening, an answer, a journal entry or a cut. Only an answer's or an entry's buffer has a size.
 pub(crate) fn one_act(given: Operation, input: &[u8], image: &mut [u32], hand: InHand) -> Operated
     requires { ⌜ Whole (length (now input)) given ⌝ }
 {

@@ -6,6 +6,7 @@ ghost use Rattle.driver.specs.Run.{inputBytes, Formed, Whole};
 use crate::state::MEMORY_WORDS;
 use machine::ANSWER;
 use machine::COLD_BOOT;
+use machine::ENTRY;
 use machine::POWER_CUT;
 use machine::REQUEST;
 use machine::STORE;
@@ -15,30 +16,30 @@ use slices::little_endian::read32;
 use slices::little_endian::read64;
 
 // The operations that are no act of the machine, after the machine's numbers.
-pub const LEND: u8 = 6;
+pub const LEND: u8 = 7;
 
-pub const LEFT: u8 = 7;
+pub const LEFT: u8 = 8;
 
-pub const SET: u8 = 8;
+pub const SET: u8 = 9;
 
-pub const DUMP: u8 = 9;
+pub const DUMP: u8 = 10;
 
-pub const STOP: u8 = 10;
+pub const STOP: u8 = 11;
 
 // Those of the running digest.
-pub const BEGIN: u8 = 11;
+pub const BEGIN: u8 = 12;
 
-pub const FEED: u8 = 12;
+pub const FEED: u8 = 13;
 
-pub const FINISH: u8 = 13;
+pub const FINISH: u8 = 14;
 
-pub const SET_COUNT: u8 = 14;
+pub const SET_COUNT: u8 = 15;
 
 // An operation: the machine's number of its act or one of the above, and where the next one stands.
 // Up to three byte strings, each from its start to its end: a boot's runtime digest, manifest digest and
 // secret, a request's handoff table and bytes, an image's words, a slice. `code` is a request's or the part
-// that is set, `number` the count of stores or the value that is set, `size` that of an answer's buffer,
-// `words` that of the image that is lent.
+// that is set, `number` the count of stores or the value that is set, `size` that of an answer's or an
+// entry's buffer, `words` that of the image that is lent.
 pub(crate) struct Operation {
     pub kind: u8,
     pub end: usize,
@@ -194,12 +195,12 @@ fn stores(input: &[u8], at: usize) -> Operation
     read
 }
 
-// An answer: the buffer's size.
-fn answer(input: &[u8], at: usize) -> Operation
+// An answer or a journal entry: the buffer's size.
+fn taking(kind: u8, input: &[u8], at: usize) -> Operation
     requires { ⌜ at < inputBytes ⌝ }
     ensures { λ r. ⌜ Formed at r ⌝ }
 {
-    let mut read = bare(ANSWER, at, at + 3);
+    let mut read = bare(kind, at, at + 3);
     read.size = string_length(input, at + 1);
     read
 }
@@ -227,7 +228,8 @@ fn begun(input: &[u8], at: usize) -> Operation
         b'U' => boot(UPDATE_BOOT, input, at, 1),
         b'R' => request(input, at),
         b'S' => stores(input, at),
-        b'A' => answer(input, at),
+        b'A' => taking(ANSWER, input, at),
+        b'J' => taking(ENTRY, input, at),
         b'L' => bare(LEFT, at, at + 1),
         b'X' => bare(POWER_CUT, at, at + 1),
         b'W' => part(SET, input, at),

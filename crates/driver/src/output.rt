@@ -5,6 +5,7 @@ ghost use lib.ListN.{length};
 ghost use Rattle.driver.specs.Run.{memoryWords};
 use crate::state::MEMORY_WORDS;
 use libc::STDOUT_FILENO;
+use machine::ENTRY;
 use machine::Report;
 use opening::Outcome;
 use opening::works::outcome_number;
@@ -52,14 +53,29 @@ fn put_answer(number: u32, buffer: &[u8]) -> bool {
     put32(number) && put(buffer)
 }
 
-// What an act reports. An opening's number is 0 where it is accepted, and what it gave stands behind.
-pub(crate) fn put_report(report: Report, buffer: &[u8]) -> bool {
+// A journal entry: its number, its length and the whole buffer.
+fn put_entry(number: u32, length: usize, buffer: &[u8]) -> bool {
+    put32(number) && put_count(length) && put(buffer)
+}
+
+// What an act that asked for an answer or an entry gave with no work in hand.
+fn put_no_work(kind: u8, buffer: &[u8]) -> bool {
+    if kind == ENTRY {
+        return put_entry(NO_WORK, 0, buffer);
+    }
+    put_answer(NO_WORK, buffer)
+}
+
+// What an act of this kind reports. An opening's number is 0 where it is accepted, and what it gave stands
+// behind.
+pub(crate) fn put_report(kind: u8, report: Report, buffer: &[u8]) -> bool {
     match report {
         Report::Refused(number) => put32(number),
         Report::Opened(left) => put_counts(0, left),
         Report::Booted(outcome, left) => put_booted(outcome, left),
         Report::Answered(number, _) => put_answer(number, buffer),
-        Report::NoWork => put_answer(NO_WORK, buffer),
+        Report::Recorded(number, length) => put_entry(number, length, buffer),
+        Report::NoWork => put_no_work(kind, buffer),
         _ => true,
     }
 }

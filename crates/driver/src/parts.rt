@@ -81,6 +81,7 @@ fn with_kind(work: Work, kind: Kind) -> Work {
     let node = work.node;
     let secret = work.secret;
     let answer = work.answer;
+    let inputs = work.inputs;
     Work {
         kind,
         position: work.position,
@@ -90,6 +91,7 @@ fn with_kind(work: Work, kind: Kind) -> Work {
         secret,
         answer,
         answer_len: work.answer_len,
+        inputs,
     }
 }
 

@@ -5,7 +5,7 @@ use mathlib.Core.Bool.{cond}
 use mathlib.Core.Path.{_≡_}
 use mathlib.Core.List.{List, [], _∷_, _++_}
 use lib.ListN.{length, getD}
-use Rattle.layout.specs.Sizes.{registerWords, nodeWords, answerMax}
+use Rattle.layout.specs.Sizes.{registerWords, nodeWords, answerMax, inputBytes}
 use Rattle.layout.specs.Words.{tab, zeros, byteOf, part, wordsAt}
 use Rattle.table.specs.Coding.{codedAs, codedOf, isKind, kindOf}
 use Rattle.work.specs.declared.Work.{Work}
@@ -35,8 +35,15 @@ answerWord = secretWord + registerWords
 abbrev pub answerWords : ℕ
 answerWords = answerMax / 4
 
+-- and so the inputs of its journal entry
+abbrev pub inputsWord : ℕ
+inputsWord = answerWord + answerWords
+
+abbrev pub inputWords : ℕ
+inputWords = inputBytes / 4
+
 abbrev pub workSize : ℕ
-workSize = answerWord + answerWords
+workSize = inputsWord + inputWords
 
 -- ---- from a work to words
 
@@ -60,20 +67,20 @@ headOf w =
     ∷ []
 
 -- the parts one after another
-unfoldable pub rowOf : List ℕ → List ℕ → List ℕ → List ℕ → List ℕ → List ℕ → List ℕ
-rowOf head register journey node secret answer = head ++ (register ++ (journey ++ (node ++ (secret ++ answer))))
+unfoldable pub rowOf : (head register journey node secret answer inputs : List ℕ) → List ℕ
+rowOf head register journey node secret answer inputs =
+    head ++ (register ++ (journey ++ (node ++ (secret ++ (wordsAt answerWords answer 0 ++ wordsAt inputWords inputs 0)))))
 
 -- parts as long as a work's
-pub record PartsLong (head register journey node secret answer : List ℕ) : Type 0 where
+pub record PartsLong (head register journey node secret : List ℕ) : Type 0 where
   pub head-long : length head ≡ registerWord
   pub register-long : length register ≡ registerWords
   pub journey-long : length journey ≡ registerWords
   pub node-long : length node ≡ nodeWords
   pub secret-long : length secret ≡ registerWords
-  pub answer-long : length answer ≡ answerWords
 
 unfoldable pub workWords : Work → List ℕ
-workWords w = rowOf (headOf w) (w .register) (w .journey) (w .node) (w .secret) (wordsAt answerWords (w .answer) 0)
+workWords w = rowOf (headOf w) (w .register) (w .journey) (w .node) (w .secret) (w .answer) (w .inputs)
 
 -- a list of bytes
 abbrev pub AllBytes : List ℕ → Type 0
@@ -92,8 +99,9 @@ longAt l at = joinedOf (getD l at 0) (getD l (at + 1) 0)
 unfoldable pub positionOf : ℕ → ℕ → ℕ
 positionOf number position = cond (isKind number) position 1
 
-unfoldable pub answerBytes : List ℕ → List ℕ
-answerBytes l = tab answerMax (λ k. byteOf (getD l (answerWord + k / 4) 0) (k % 4))
+-- n bytes of the words from an index on
+unfoldable pub bytesAt : ℕ → List ℕ → ℕ → List ℕ
+bytesAt n l at = tab n (λ k. byteOf (getD l (at + k / 4) 0) (k % 4))
 
 unfoldable pub workOf : List ℕ → Work
 workOf l =
@@ -104,11 +112,12 @@ workOf l =
       journey = part registerWords l journeyWord;
       node = part nodeWords l nodeWord;
       secret = part registerWords l secretWord;
-      answer = answerBytes l;
+      answer = bytesAt answerMax l answerWord;
       «answer_len» = longAt l 7;
+      inputs = bytesAt inputBytes l inputsWord;
     }
 
--- what an answer's taking asks of a work: no prepared word
+-- what an answer's taking asks of a work: no prepared word and no input
 unfoldable pub answeringOf : Work → Work
 answeringOf w =
     record {
@@ -120,4 +129,5 @@ answeringOf w =
       secret = zeros registerWords;
       answer = w .answer;
       «answer_len» = w .«answer_len»;
+      inputs = zeros inputBytes;
     }

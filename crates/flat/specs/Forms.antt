@@ -8,6 +8,7 @@ use lib.Dec.{eqb}
 use lib.ListN.{length, set}
 use Rattle.work.specs.declared.Work.{Work}
 use Rattle.work.specs.Entries.{leftOf, storeResult, storeImage, answerResult, answerBuffer}
+use Rattle.work.specs.Recorded.{entryResult, entryBuffer}
 use Rattle.opening.specs.Openings.{statusNumber, bootNumber, outcomeNumber}
 use Rattle.opening.specs.declared.Status.{Status}
 use Rattle.opening.specs.declared.Status.the-variants as status
@@ -85,3 +86,13 @@ answerWritten l buffer n = cond (eqb (answerNumberIn l buffer) 0) (answerResult 
 
 unfoldable pub answerBufferIn : List ℕ → List ℕ → List ℕ
 answerBufferIn l buffer = ofWork l (answerBuffer (workOf l) buffer) buffer
+
+-- the journal entry (document 02, §3), as the answer
+unfoldable pub entryNumberIn : List ℕ → List ℕ → ℕ
+entryNumberIn l buffer = ofWork l (entryResult (workOf l) buffer .number) wrongWork
+
+unfoldable pub entryWritten : List ℕ → List ℕ → ℕ → ℕ
+entryWritten l buffer n = cond (eqb (entryNumberIn l buffer) 0) (entryResult (workOf l) buffer .written) n
+
+unfoldable pub entryBufferIn : List ℕ → List ℕ → List ℕ
+entryBufferIn l buffer = ofWork l (entryBuffer (workOf l) buffer) buffer

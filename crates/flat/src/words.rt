@@ -1,15 +1,15 @@
 // A work as the words of a lent buffer.
 //
 // Words 0 to 8 are the kind's number and, of two words each, low and high, the kind's two indices, the
-// position and the answer's length; then register, journey, node and secret; then the answer, four
-// bytes to a word, the first lowest.
+// position and the answer's length; then register, journey, node and secret; then the answer and the
+// inputs, four bytes to a word, the first lowest.
 ghost use mathlib.Core.Path.{_≡_};
 ghost use mathlib.Core.List.{[], _∷_};
 ghost use lib.ListN.{length, getD};
-ghost use Rattle.layout.specs.Words.{wordsAt};
 ghost use Rattle.work.specs.Parts.{standing};
-ghost use Rattle.flat.specs.Flat.{AllBytes, PartsLong, workSize, answerWords, lowOf, highOf, headOf, rowOf, workWords, workOf};
+ghost use Rattle.flat.specs.Flat.{AllBytes, PartsLong, workSize, lowOf, highOf, headOf, rowOf, workWords, workOf};
 use layout::ANSWER_MAX;
+use layout::INPUT_BYTES;
 use layout::NODE_WORDS;
 use layout::REGISTER_WORDS;
 use packing::word;
@@ -38,9 +38,9 @@ pub const SECRET_IN: usize = NODE_IN + NODE_WORDS;
 
 pub const ANSWER_IN: usize = SECRET_IN + REGISTER_WORDS;
 
-const ANSWER_WORDS: usize = ANSWER_MAX / 4;
+pub const INPUTS_IN: usize = ANSWER_IN + ANSWER_MAX / 4;
 
-pub const WORK_WORDS: usize = ANSWER_IN + ANSWER_WORDS;
+pub const WORK_WORDS: usize = INPUTS_IN + INPUT_BYTES / 4;
 
 // The number of a work buffer of another length.
 pub const WRONG_WORK: u32 = 28;
@@ -97,19 +97,6 @@ fn head_of(kind: Kind, position: usize, answer_len: usize) -> [u32; REGISTER_IN]
     )
 }
 
-fn packed(answer: &[u8]) -> [u32; ANSWER_WORDS]
-    ensures { λ r. ⌜ r ≡ wordsAt answerWords (now (answer .entry)) 0 ⌝ }
-    ensures { λ r. ⌜ AllBytes (now (answer .entry)) ⌝ }
-{
-    let mut out = [0u32; ANSWER_WORDS];
-    let mut k = 0;
-    while k < ANSWER_WORDS {
-        out[k] = read32(answer, 4 * k);
-        k += 1;
-    }
-    out
-}
-
 // Word k of the parts one after another.
 fn row_word<'a>(
     head: &'a [u32],
@@ -117,11 +104,12 @@ fn row_word<'a>(
     journey: &'a [u32],
     node: &'a [u32],
     secret: &'a [u32],
-    answer: &'a [u32],
+    answer: &'a [u8],
+    inputs: &'a [u8],
     k: usize,
 ) -> u32
-    requires { ⌜ PartsLong (now head) (now register) (now journey) (now node) (now secret) (now answer) ⌝ }
-    ensures { λ r. ⌜ r ≡ getD (rowOf (now (head .entry)) (now (register .entry)) (now (journey .entry)) (now (node .entry)) (now (secret .entry)) (now (answer .entry))) k 0 ⌝ }
+    requires { ⌜ PartsLong (now head) (now register) (now journey) (now node) (now secret) ⌝ }
+    ensures { λ r. ⌜ r ≡ getD (rowOf (now (head .entry)) (now (register .entry)) (now (journey .entry)) (now (node .entry)) (now (secret .entry)) (now (answer .entry)) (now (inputs .entry))) k 0 ⌝ }
 {
     if k < REGISTER_IN {
         return word(head, k);
@@ -138,7 +126,13 @@ fn row_word<'a>(
     if k < ANSWER_IN {
         return word(secret, k - SECRET_IN);
     }
-    word(answer, k - ANSWER_IN)
+    if k < INPUTS_IN {
+        return read32(answer, 4 * (k - ANSWER_IN));
+    }
+    if k < WORK_WORDS {
+        return read32(inputs, 4 * (k - INPUTS_IN));
+    }
+    0
 }
 
 fn write_row<'a>(
@@ -147,16 +141,18 @@ fn write_row<'a>(
     journey: &'a [u32],
     node: &'a [u32],
     secret: &'a [u32],
-    answer: &'a [u32],
+    answer: &'a [u8],
+    inputs: &'a [u8],
     out: &mut [u32],
 )
     requires { ⌜ length (now out) ≡ workSize ⌝ }
-    requires { ⌜ PartsLong (now head) (now register) (now journey) (now node) (now secret) (now answer) ⌝ }
-    ensures { λ r. ⌜ now (out .exit) ≡ rowOf (now (head .entry)) (now (register .entry)) (now (journey .entry)) (now (node .entry)) (now (secret .entry)) (now (answer .entry)) ⌝ }
+    requires { ⌜ PartsLong (now head) (now register) (now journey) (now node) (now secret) ⌝ }
+    ensures { λ r. ⌜ now (out .exit) ≡ rowOf (now (head .entry)) (now (register .entry)) (now (journey .entry)) (now (node .entry)) (now (secret .entry)) (now (answer .entry)) (now (inputs .entry)) ⌝ }
+    ensures { λ r. ⌜ AllBytes (now (answer .entry)) × AllBytes (now (inputs .entry)) ⌝ }
 {
     let mut k = 0;
     while k < WORK_WORDS {
-        out[k] = row_word(head, register, journey, node, secret, answer, k);
+        out[k] = row_word(head, register, journey, node, secret, answer, inputs, k);
         k += 1;
     }
 }
@@ -172,7 +168,16 @@ pub(crate) fn write_work(w: Work, out: &mut [u32])
     let journey = w.journey;
     let node = w.node;
     let secret = w.secret;
-    let bytes = w.answer;
-    let answer = packed(&bytes);
-    write_row(&head, &register, &journey, &node, &secret, &answer, out);
+    let answer = w.answer;
+    let inputs = w.inputs;
+    write_row(
+        &head,
+        &register,
+        &journey,
+        &node,
+        &secret,
+        &answer,
+        &inputs,
+        out,
+    );
 }

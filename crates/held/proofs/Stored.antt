@@ -10,7 +10,7 @@ use lib.Dec.{ltb, eqb}
 use lib.ListN.{length, getD, set, take, drop, length-set}
 use lib.Seq.{getD-set-same, getD-set-other}
 use borrow.Author.Tests.{eq-eqb, ne-eqb, ltb-true, eqb-true, eqb-false}
-use Rattle.layout.specs.Sizes.{registerWords, nodeWords, answerMax, imageWords}
+use Rattle.layout.specs.Sizes.{registerWords, nodeWords, answerMax, inputBytes, imageWords}
 use Rattle.layout.specs.Words.{part, byteOf}
 use Rattle.layout.proofs.Tab.{tab-is, getD-tab, length-tab}
 use Rattle.layout.proofs.Packing.{length-part, getD-part, part-within}
@@ -24,7 +24,7 @@ use Rattle.table.specs.Coding.{codedAs, isKind}
 use Rattle.table.proofs.ByKind.{no-kind}
 use Rattle.work.proofs.Shape.{left-position}
 use Rattle.work.proofs.Parts.{storingOf, number-storing, image-storing}
-use Rattle.flat.specs.Flat.{registerWord, journeyWord, nodeWord, secretWord, answerWord, workSize, lowOf, highOf, longAt, positionOf, answerBytes, workOf}
+use Rattle.flat.specs.Flat.{registerWord, journeyWord, nodeWord, secretWord, answerWord, inputsWord, workSize, lowOf, highOf, longAt, positionOf, bytesAt, workOf}
 use Rattle.flat.specs.Forms.{storeNumberIn, withPosition, storeWords, storeHand, storeImageIn}
 use Rattle.flat.proofs.Back.{joined-back}
 
@@ -75,14 +75,14 @@ module _ (l : List ℕ) (h : length l ≡ workSize) (p : ℕ) where
       tab-is (λ k. getD (withPosition l p) (at + k) 0) (part n l at) n (length-part n l at)
       (λ i c. other (at + i) (λ e. omega (arith, e)) (λ e. omega (arith, e)) ∙ sym (getD-part n l at i c))
 
-  answer-kept : answerBytes (withPosition l p) ≡ answerBytes l
-  unfolding answerBytes
-  answer-kept =
-      let f : ℕ → ℕ = λ k. byteOf (getD l (answerWord + k / 4) 0) (k % 4) in
-      tab-is (λ k. byteOf (getD (withPosition l p) (answerWord + k / 4) 0) (k % 4)) (answerBytes l) answerMax (length-tab f answerMax)
+  bytes-kept : (n at : ℕ) → 7 ≤ at → bytesAt n (withPosition l p) at ≡ bytesAt n l at
+  unfolding bytesAt
+  bytes-kept n at b =
+      let f : ℕ → ℕ = λ k. byteOf (getD l (at + k / 4) 0) (k % 4) in
+      tab-is (λ k. byteOf (getD (withPosition l p) (at + k / 4) 0) (k % 4)) (bytesAt n l at) n (length-tab f n)
       (λ i c.
-      ap (λ (x : ℕ). byteOf x (i % 4)) (other (answerWord + i / 4) (λ e. omega (arith, e)) (λ e. omega (arith, e)))
-      ∙ sym (getD-tab f answerMax i c))
+      ap (λ (x : ℕ). byteOf x (i % 4)) (other (at + i / 4) (λ e. omega (arith, e)) (λ e. omega (arith, e)))
+      ∙ sym (getD-tab f n i c))
 
   abbrev placed : ℕ → Work
   placed x =
@@ -95,6 +95,7 @@ module _ (l : List ℕ) (h : length l ≡ workSize) (p : ℕ) where
         secret = workOf l .secret;
         answer = workOf l .answer;
         «answer_len» = workOf l .«answer_len»;
+        inputs = workOf l .inputs;
       }
 
   -- of a known kind: the work, at that position
@@ -117,7 +118,8 @@ module _ (l : List ℕ) (h : length l ≡ workSize) (p : ℕ) where
         part-kept registerWords journeyWord (omega arith),
         part-kept nodeWords nodeWord (omega arith),
         part-kept registerWords secretWord (omega arith),
-        answer-kept,
+        bytes-kept answerMax answerWord (omega arith),
+        bytes-kept inputBytes inputsWord (omega arith),
       )
 
 -- a work with a store left is of a known kind

@@ -1,12 +1,14 @@
-// The entries over a work in lent words: stores left, one store, the answer.
+// The entries over a work in lent words: stores left, one store, the answer, the journal entry.
 ghost use mathlib.Core.Path.{_≡_};
 ghost use Prim.Native.Nat.{_+_, _<_};
 ghost use lib.ListN.{length};
 ghost use Rattle.work.specs.Entries.{storeNumber, storeImage};
+ghost use Rattle.work.specs.Recorded.{entryResult, entryBuffer};
 ghost use Rattle.flat.specs.Flat.{workSize, workOf, answeringOf};
-ghost use Rattle.flat.specs.Forms.{leftIn, storeNumberIn, withPosition, storeWords, storeHand, storeImageIn, answerNumberIn, answerWritten, answerBufferIn};
+ghost use Rattle.flat.specs.Forms.{leftIn, storeNumberIn, withPosition, storeWords, storeHand, storeImageIn, answerNumberIn, answerWritten, answerBufferIn, entryNumberIn, entryWritten, entryBufferIn};
 use crate::reading::answer_in;
 use crate::reading::answer_len_in;
+use crate::reading::inputs_in;
 use crate::reading::kind_in;
 use crate::reading::position_in;
 use flat::WORK_WORDS;
@@ -18,9 +20,12 @@ use flat::words::POSITION_IN;
 use flat::words::REGISTER_IN;
 use flat::words::SECRET_IN;
 use flat::words::WRONG_WORK;
+use journal_bytes::write::Taken;
+use layout::INPUT_BYTES;
 use layout::NODE_WORDS;
 use layout::REGISTER_WORDS;
 use work::Work;
+use work::entry::take;
 use work::lent;
 
 mod reading;
@@ -83,7 +88,7 @@ pub fn store(work: &mut [u32], image: &mut [u32]) -> u32
     0
 }
 
-// What an answer's taking asks of the words: no prepared word.
+// What an answer's taking asks of the words: no prepared word and no input.
 fn answering(work: &[u32]) -> Work
     ensures { λ r. ⌜ r ≡ answeringOf (workOf (now (work .entry))) ⌝ }
 {
@@ -98,6 +103,7 @@ fn answering(work: &[u32]) -> Work
         secret: [0u32; REGISTER_WORDS],
         answer,
         answer_len: answer_len_in(work),
+        inputs: [0u8; INPUT_BYTES],
     }
 }
 
@@ -117,4 +123,37 @@ pub fn answer(work: &[u32], buffer: &mut [u8], written: &mut usize) -> u32
         *written = a.written;
     }
     a.number
+}
+
+// The journal entry of the work that the words are.
+fn entry_from(work: &[u32], buffer: &mut [u8]) -> Taken
+    requires { ⌜ length (now work) ≡ workSize ⌝ }
+    ensures { λ r. ⌜ r ≡ entryResult (workOf (now (work .entry))) (now (buffer .entry)) ⌝ }
+    ensures { λ r. ⌜ now (buffer .exit) ≡ entryBuffer (workOf (now (work .entry))) (now (buffer .entry)) ⌝ }
+{
+    take(
+        kind_in(work),
+        position_in(work),
+        answer_len_in(work),
+        &work[NODE_IN..SECRET_IN],
+        inputs_in(work),
+        buffer,
+    )
+}
+
+// The journal entry into the front of the buffer, and its length. Refused, with nothing written: 28, a work
+// of another length; then as the entry.
+pub fn entry(work: &[u32], buffer: &mut [u8], written: &mut usize) -> u32
+    ensures { λ r. ⌜ r ≡ entryNumberIn (now (work .entry)) (now (buffer .entry)) ⌝ }
+    ensures { λ r. ⌜ now (written .exit) ≡ entryWritten (now (work .entry)) (now (buffer .entry)) (now (written .entry)) ⌝ }
+    ensures { λ r. ⌜ now (buffer .exit) ≡ entryBufferIn (now (work .entry)) (now (buffer .entry)) ⌝ }
+{
+    if work.len() != WORK_WORDS {
+        return WRONG_WORK;
+    }
+    let taken = entry_from(work, buffer);
+    if taken.number == 0 {
+        *written = taken.written;
+    }
+    taken.number
 }

@@ -1,13 +1,17 @@
-// The work that any words are: its kind, position, answer and answer's length. What is past the end is 0.
+// The work that any words are: its kind, position, answer, answer's length and inputs. What is past the end
+// is 0.
 ghost use mathlib.Core.Path.{_≡_};
 ghost use Prim.Native.Nat.{_<_};
-ghost use Rattle.flat.specs.Flat.{workSize, joinedOf, longAt, positionOf, answerBytes, workOf};
+ghost use lib.ListN.{length};
+ghost use Rattle.flat.specs.Flat.{workSize, joinedOf, longAt, positionOf, bytesAt, workOf};
 use flat::words::ANSWER_IN;
 use flat::words::FIRST_IN;
+use flat::words::INPUTS_IN;
 use flat::words::LENGTH_IN;
 use flat::words::POSITION_IN;
 use flat::words::SECOND_IN;
 use layout::ANSWER_MAX;
+use layout::INPUT_BYTES;
 use packing::byte_of;
 use packing::word;
 use table::Kind;
@@ -61,15 +65,32 @@ pub(crate) fn answer_len_in(words: &[u32]) -> usize
     long_in(words, LENGTH_IN)
 }
 
-pub(crate) fn answer_in(words: &[u32]) -> [u8; ANSWER_MAX]
-    ensures { λ r. ⌜ r ≡ answerBytes (now (words .entry)) ⌝ }
+// The bytes of the words from an index on, as many as there is room for.
+fn unpack(words: &[u32], at: usize, out: &mut [u8])
+    requires { ⌜ at < workSize ⌝ }
+    ensures { λ r. ⌜ now (out .exit) ≡ bytesAt (length (now (out .entry))) (now (words .entry)) at ⌝ }
 {
-    let mut out = [0u8; ANSWER_MAX];
+    let n = out.len();
     let mut k = 0;
-    while k < ANSWER_MAX {
-        let w = word(words, ANSWER_IN + k / 4);
+    while k < n {
+        let w = word(words, at + k / 4);
         out[k] = byte_of(w, k % 4);
         k += 1;
     }
+}
+
+pub(crate) fn answer_in(words: &[u32]) -> [u8; ANSWER_MAX]
+    ensures { λ r. ⌜ r ≡ workOf (now (words .entry)) .answer ⌝ }
+{
+    let mut out = [0u8; ANSWER_MAX];
+    unpack(words, ANSWER_IN, &mut out);
+    out
+}
+
+pub(crate) fn inputs_in(words: &[u32]) -> [u8; INPUT_BYTES]
+    ensures { λ r. ⌜ r ≡ workOf (now (words .entry)) .inputs ⌝ }
+{
+    let mut out = [0u8; INPUT_BYTES];
+    unpack(words, INPUTS_IN, &mut out);
     out
 }

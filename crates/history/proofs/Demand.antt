@@ -30,7 +30,7 @@ use Rattle.opening.specs.declared.Status.{Status}
 use Rattle.opening.specs.declared.Status.the-variants as status
 use Rattle.opening.specs.declared.BootStatus.{BootStatus}
 use Rattle.opening.specs.declared.BootStatus.the-variants as bootStatus
-use Rattle.history.specs.Calls.{Call, request, updateBoot, store, answer, powerCut, refusal, stored, Hand, Machine, Step, afterRequest, afterBoot, afterStore, step, run, results}
+use Rattle.history.specs.Calls.{Call, request, updateBoot, store, answer, entry, powerCut, refusal, stored, Hand, Machine, Step, afterRequest, afterBoot, afterStore, step, run, results}
 use Rattle.history.specs.Ledger.{Contents, treeAt, Job, Ledger, blank, next, stateOf, registerRows, nodeRows, imageOf, any, disables, isDisableCommand, tears, viewOf, letGo, ledgerRequest, ledgerBoot, updateRuling, ledgerStore, ledgerStep, firstLedger}
 use Rattle.history.specs.Demand.{Shut, wasAccepted, bootEnded, endsBoot, AsCounted, Kept, isUnderWay, Holds, afterColdBoot, Demand3}
 use Rattle.history.proofs.Encoded.{mark-read, attestation-read, secret-read}
@@ -145,6 +145,7 @@ shut-step m b (updateBoot x v) i q s =
     subst Shut (sym (boot-image m (openUpdateBoot (m .image) x v .work) (openUpdateBoot (m .image) x v .status))) s
 shut-step m b store i q s = shut-one i q s
 shut-step m b (answer a) i q s = s
+shut-step m b (entry a) i q s = s
 shut-step m b powerCut i q s = s
 
 torn-request : (b : Ledger) (R : Ruling) → b .torn ≡ true → ledgerRequest b R .state .torn ≡ true
@@ -184,6 +185,7 @@ torn-stays b (request r) q = torn-request b (ruling (viewOf (b .history) (b .tor
 torn-stays b (updateBoot x v) q = torn-boot b (updateRuling b x v) q
 torn-stays b store q = torn-store b (b .hand) q
 torn-stays b (answer a) q = q
+torn-stays b (entry a) q = q
 torn-stays b powerCut q = rw q
 
 shut-run : (cs : List Call) (m : Machine) (b : Ledger) → Related m b → b .torn ≡ true → Shut (m .image) → Shut (run step m cs .image)
@@ -193,7 +195,7 @@ shut-run (c ∷ cs) m b i q s =
 
 -- ---- the start: all stores of a cold boot
 
-cold-shaped : (before : List ℕ) (x : BootInputs) → wellShaped (workAt before (coldBoot x) []) ≡ true
+pub cold-shaped : (before : List ℕ) (x : BootInputs) → wellShaped (workAt before (coldBoot x) []) ≡ true
 unfolding wellShaped workAt workWith indexOk numberOf
 cold-shaped before x = refl
 

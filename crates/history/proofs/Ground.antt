@@ -9,7 +9,8 @@ use mathlib.Core.Bool.{Bool, true, false, cond, not, _&&_, _||_, or-false, true�
 use mathlib.Core.List.{List, [], _∷_, _++_, foldl-append}
 use mathlib.Core.Option.{Option}
 use lib.Dec.{eqb}
-use borrow.Author.Tests.{lt-ltb}
+use borrow.Author.Tests.{lt-ltb, eqb-true}
+use Rattle.layout.proofs.Cases.{and-left, and-right}
 use lib.ListN.{length, getD}
 use Rattle.layout.specs.Sizes.{nodeCount, imageWords, markAt, attestationAt, answerMax}
 use Rattle.layout.specs.Refusals.{unfinished, unknownCode, wrongLength, badChecksum}
@@ -19,9 +20,10 @@ use Rattle.table.specs.Table.{numberOf, indexOk}
 use Rattle.table.specs.declared.Put.{Put}
 use Rattle.work.proofs.Plans.{apply, length-apply}
 use Rattle.opening.specs.Tasks.{Request, BootInputs, Task, noStores, keptBoot, update, Ruling, refused, accepted, View}
-use Rattle.opening.specs.Rules.{refuses, wrongChecksum, Command, commandOf, served, ruled, commandRules, requestRules, updateTask}
+use Rattle.opening.specs.Rules.{refuses, wrongChecksum, Command, commandOf, served, ruled, commandRules, requestRules, inputsOk, updateTask}
 use Rattle.opening.specs.Works.{factsOf}
-use Rattle.opening.proofs.Decided.{NoneApply, ruled-decided}
+use Rattle.opening.proofs.Decided.{NoneApply, ruled-decided, negated}
+use Rattle.opening.proofs.Recorded.{Told}
 use Rattle.command_laws.proofs.ByCommand.{Steady, Served, CommandLaw, declined-short, command-law}
 use Rattle.opening.specs.declared.Outcome.{Outcome}
 use Rattle.opening.specs.Openings.{viewIn, intact}
@@ -88,7 +90,7 @@ index-ok {l} (broken n m) tk f = f .torn refl .index (treeIn l)
 
 -- ---- one task more in the history
 
-any-snoc : (f : Task → Bool) (h : List Task) (t : Task) → any f (h ++ (t ∷ [])) ≡ (any f h || f t)
+pub any-snoc : (f : Task → Bool) (h : List Task) (t : Task) → any f (h ++ (t ∷ [])) ≡ (any f h || f t)
 any-snoc f [] t = or-false (f t)
 any-snoc f (x ∷ h) t = step (f x) (any-snoc f h t)
   where
@@ -96,7 +98,7 @@ any-snoc f (x ∷ h) t = step (f x) (any-snoc f h t)
     step true e = refl
     step false e = e
 
-state-snoc : (h : List Task) (t : Task) → stateOf (h ++ (t ∷ [])) ≡ next (stateOf h) t
+pub state-snoc : (h : List Task) (t : Task) → stateOf (h ++ (t ∷ [])) ≡ next (stateOf h) t
 unfolding stateOf
 state-snoc h t = foldl-append next blank h (t ∷ [])
 
@@ -212,7 +214,7 @@ isBoot tk = not (isNone (factsOf tk .boot))
 
 abbrev pub FitsRuling : List Task → Bool → Bool → Bool → Ruling → Type 0
 FitsRuling h t u b (refused n) = Unit {0}
-FitsRuling h t u b (accepted tk a) = Fits h t u tk × (length a ≤ answerMax) × (b ≡ isBoot tk)
+FitsRuling h t u b (accepted tk a) = Fits h t u tk × (length a ≤ answerMax) × (b ≡ isBoot tk) × Told tk
 
 left-false : (t x : Bool) → not (t || x) ≡ true → t ≡ false
 left-false true x e = sym e
@@ -231,8 +233,9 @@ idle-fits h t =
 
 -- the task of a command that nothing refused or declined, by the command's laws
 module _ (h : List Task) (t : Bool) (v : View) (r : Request) (off : t ≡ true → v .on ≡ false) (nodes : v .nodes ≡ treeAt (stateOf h .chain)) where
-  fits-command : NoneApply (commandOf (r .code) .rules v r) → FitsRuling h t false false (served (commandOf (r .code)) r)
-  fits-command n = (
+  fits-command : commandOf (r .code) .lengthOk (r .bytes) ≡ true → NoneApply (commandOf (r .code) .rules v r)
+      → FitsRuling h t false false (served (commandOf (r .code)) r)
+  fits-command e n = (
     record {
       rest = λ e. inl refl;
       torn = λ e. s .steady (off e);
@@ -242,6 +245,7 @@ module _ (h : List Task) (t : Bool) (v : View) (r : Request) (off : t ≡ true �
     },
     law .short r,
     sym (ap (λ (o : Option Outcome). not (isNone o)) (s .request)),
+    law .told r e,
   )
     where
       tk : Task
@@ -259,8 +263,10 @@ fits-rule h t true r = tt
 fits-rule h t false r =
     ruled-decided (FitsRuling h t false false) (requestRules (viewOf h t false) r) (commandOf (r .code)) r
     (λ n. tt)
-    (λ n. (idle-fits h t, declined-short n, refl))
-    (λ n. fits-command h t (viewOf h t false) r (λ e. ap (λ (x : Bool). not (x || any disables h)) e) refl (n .1 .1 .1 .1))
+    (λ n. (idle-fits h t, declined-short n, refl, tt))
+    (λ n. fits-command h t (viewOf h t false) r (λ e. ap (λ (x : Bool). not (x || any disables h)) e) refl
+    (negated (commandOf (r .code) .lengthOk (r .bytes)) (n .1 .1 .0))
+    (n .1 .1 .1 .1))
 
 -- ---- the update boot decides as the ledger does
 
@@ -288,9 +294,17 @@ intact-same {l} {h} (sound g o e) =
 intact-same {l} {h} (locked n m s) = rw (m, s .off)
 intact-same {l} {h} (broken n m) = rw m
 
-pub fits-boot : (h : List Task) (t u v : Bool) (b : BootInputs) → FitsRuling h t u true (accepted (updateTask (not (isOff h t)) v b) [])
+-- a boot's digests have 48 bytes
+pub digests-long : (x : BootInputs) → inputsOk x ≡ true → (length (x .runtime) ≡ 48) × (length (x .manifest) ≡ 48)
+unfolding inputsOk
+digests-long x e = (
+  eqb-true (length (x .runtime)) 48 (and-left (eqb (length (x .runtime)) 48) _ e),
+  eqb-true (length (x .manifest)) 48 (and-left (eqb (length (x .manifest)) 48) _ (and-right (eqb (length (x .runtime)) 48) _ e)),
+)
+
+pub fits-boot : (h : List Task) (t u v : Bool) (b : BootInputs) → inputsOk b ≡ true → FitsRuling h t u true (accepted (updateTask (not (isOff h t)) v b) [])
 unfolding numberOf indexOk
-fits-boot h t u v b = go (isOff h t) refl v
+fits-boot h t u v b fine = go (isOff h t) refl v
   where
     kept-torn : isOff h t ≡ false → t ≡ false
     kept-torn e = left-false t (any disables h) (ap not e)
@@ -315,10 +329,12 @@ fits-boot h t u v b = go (isOff h t) refl v
       },
       zero-le,
       refl,
+      tt,
     )
     go false e true = (
       whole (update b) e (λ g. record { index = rw (lt-ltb _ nodeCount (root-below (stateOf h .chain) g)); warm = refl }) (λ z. false≢true z),
       zero-le,
       refl,
+      digests-long b fine,
     )
-    go false e false = (whole keptBoot e (λ g. record { index = refl; warm = refl }) (λ z. false≢true z), zero-le, refl)
+    go false e false = (whole keptBoot e (λ g. record { index = refl; warm = refl }) (λ z. false≢true z), zero-le, refl, tt)

@@ -10,13 +10,15 @@ use mathlib.Core.Option.{Option, none, some}
 use lib.Dec.{ltb}
 use lib.ListN.{length, drop}
 use Rattle.layout.specs.Sizes.{nodeCount}
-use Rattle.layout.specs.Refusals.{wrongInputs, storesLeft, shortBuffer, notWellFormed}
+use Rattle.layout.specs.Refusals.{wrongInputs, storesLeft, shortBuffer, shortEntry, notWellFormed}
 use Rattle.tree.specs.Tree.{wellFormed}
 use Rattle.opening.specs.Tasks.{Request, BootInputs, Task, Ruling, refused, accepted, View}
 use Rattle.opening.specs.Rules.{Verdict, refuse, decline, Rule, judged, Command, commandOf, declined, ruled, requestRules, inputsOk, updateTask}
 use Rattle.opening.specs.Openings.{openColdBoot, bootNumber}
-use Rattle.history.specs.Calls.{Call, request, updateBoot, store, answer, powerCut, Result, refusal, opened, booted, stored, answered, noWork, cutOff, Machine, Step, step, run}
-use Rattle.history.specs.Ledger.{Job, Ledger, stateOf, isOff, letGo, viewOf, ledgerRequest, ledgerBoot, updateRuling, ledgerStore, ledgerAnswer, ledgerStep, firstLedger}
+use Rattle.journal.specs.Entries.{journalBytes}
+use Rattle.opening.specs.Recorded.{entryFor}
+use Rattle.history.specs.Calls.{Call, request, updateBoot, store, answer, entry, powerCut, Result, refusal, opened, booted, stored, answered, recorded, noWork, cutOff, Machine, Step, step, run}
+use Rattle.history.specs.Ledger.{Job, Ledger, stateOf, isOff, letGo, viewOf, ledgerRequest, ledgerBoot, updateRuling, ledgerStore, ledgerAnswer, ledgerEntry, ledgerStep, firstLedger}
 use Rattle.history.specs.Demand.{afterColdBoot}
 use Rattle.history.proofs.Good.{formed-good}
 use Rattle.history.proofs.Ground.{Ground, sound, locked, broken, ruling}
@@ -60,6 +62,7 @@ refusalOf (opened k n a) = 0
 refusalOf (booted o k n) = 0
 refusalOf (stored n) = 0
 refusalOf (answered n w b) = 0
+refusalOf (recorded n w b) = 0
 refusalOf noWork = 0
 refusalOf cutOff = 0
 
@@ -87,6 +90,17 @@ answer-result (some j) k a e = go (ltb k (j .stores)) (ltb (length a) (length (j
     go false true e = omega arith
     go false false e = omega arith
 
+entry-result : (d : Option Job) (k : ℕ) (a : List ℕ) → refusalOf (ledgerEntry d k a) ≢ notWellFormed
+entry-result none k a e = omega arith
+entry-result (some j) k a e = go (ltb k (j .stores)) (journalBytes (entryFor (j .task))) (ltb (length a) (length (journalBytes (entryFor (j .task))))) e
+  where
+    go : (x : Bool) (l : List ℕ) (y : Bool)
+        → refusalOf (cond x (recorded storesLeft 0 a) (cond y (recorded shortEntry 0 a) (recorded 0 (length l) (l ++ drop (length l) a)))) ≡ notWellFormed
+        → ⊥
+    go true l y e = omega arith
+    go false l true e = omega arith
+    go false l false e = omega arith
+
 ledger-result : (m : Machine) (b : Ledger) (c : Call) → Related m b → refusalOf (ledgerStep b c .result) ≢ notWellFormed
 unfolding ledgerStep ruling
 ledger-result m b (request r) i =
@@ -99,6 +113,7 @@ ledger-result m b (updateBoot x v) i =
     boot-rules false = λ z. omega arith
 ledger-result m b store i = store-result b (b .hand)
 ledger-result m b (answer a) i = answer-result (b .hand) (b .made) a
+ledger-result m b (entry a) i = entry-result (b .hand) (b .made) a
 ledger-result m b powerCut i = λ e. omega arith
 
 -- whatever the list, its last call is not refused with 11

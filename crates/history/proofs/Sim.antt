@@ -19,6 +19,10 @@ use Rattle.layout.specs.Refusals as number
 use Rattle.table.specs.Table.{put, numberOf, indexOk}
 use Rattle.work.specs.Entries.{runsOf, putOf}
 use Rattle.work.specs.Entries.{wellShaped, finished, leftOf, moved, answerNumber, answerResult, answerBuffer}
+use Rattle.work.specs.Recorded.{entriesOf, entryNumber, entryResult, entryBuffer}
+use Rattle.journal.specs.Entries.{Entry, journalBytes}
+use Rattle.journal_bytes.specs.Results.{takenNumber, takenBuffer}
+use Rattle.opening.specs.Recorded.{entryFor}
 use Rattle.making.specs.Made.{workWith}
 use Rattle.table.specs.declared.Put.{Put}
 use Rattle.work.specs.declared.Work.{Work}
@@ -26,14 +30,15 @@ use Rattle.work.specs.declared.Stored.{Stored}
 use Rattle.work.proofs.Plans.{apply, length-apply, plan, put-plan, one-more, mark-mid}
 use Rattle.making.proofs.After.{store-made, store-refused}
 use Rattle.opening.specs.Tasks.{Request, BootInputs, Task, Ruling, refused, accepted}
-use Rattle.opening.specs.Rules.{bootRules, bootRuling, updateTask}
+use Rattle.opening.specs.Rules.{inputsOk, bootRules, bootRuling, updateTask}
 use Rattle.opening.specs.Works.{factsOf, workAt}
 use Rattle.opening.specs.Openings.{openedOf, bootedOf, viewIn, openRequest, intact, openUpdateBoot, outcomeOf, outcomeNumber}
-use Rattle.history.specs.Calls.{Call, request, updateBoot, store, answer, powerCut, Result, refusal, opened, booted, stored, answered, Hand, Machine, Step, afterRequest, afterBoot, afterStore, answerTaken, step, run}
-use Rattle.history.specs.Ledger.{treeAt, stateOf, Job, jobAt, Ledger, viewOf, tears, letGo, ledgerRequest, ledgerBoot, updateRuling, ledgerStore, ledgerAnswer, ledgerStep}
+use Rattle.history.specs.Calls.{Call, request, updateBoot, store, answer, entry, powerCut, Result, refusal, opened, booted, stored, answered, recorded, Hand, Machine, Step, afterRequest, afterBoot, afterStore, answerTaken, entryTaken, step, run}
+use Rattle.history.specs.Ledger.{treeAt, stateOf, Job, jobAt, Ledger, viewOf, tears, letGo, ledgerRequest, ledgerBoot, updateRuling, ledgerStore, ledgerAnswer, ledgerEntry, ledgerStep}
 use Rattle.history.proofs.Runs.{planAt, plan-answer, length-at}
 use Rattle.history.proofs.Ground.{Ground, broken, Fits, storesAt, isBoot, FitsRuling, ground-length, finish, ruling, rule-same, fits-rule, intact-same, fits-boot, calm, kind-same, index-ok}
-use Rattle.opening.proofs.Decided.{decided}
+use Rattle.opening.proofs.Decided.{decided, negated}
+use Rattle.opening.proofs.Recorded.{Told, entry-at}
 
 -- ---- a work in hand, beside the ledger's job, with k stores made
 
@@ -44,10 +49,22 @@ pub record Carried (w : Work) (j : Job) (k : ℕ) : Type 0 where
   pub position : w .position ≡ k
   pub long : w .«answer_len» ≡ length (j .answer)
   pub answer : take (w .«answer_len») (w .answer) ≡ j .answer
+  pub entries : entriesOf w ≡ entryFor (j .task)
+  pub told : Told (j .task)
 
 pub carried-moved : {w : Work} {j : Job} {k : ℕ} → Carried w j k → Carried (moved w) j (suc k)
+unfolding entriesOf
 carried-moved c =
-    record { index = c .index; short = c .short; number = c .number; position = omega (arith, c .position); long = c .long; answer = c .answer }
+    record {
+      index = c .index;
+      short = c .short;
+      number = c .number;
+      position = omega (arith, c .position);
+      long = c .long;
+      answer = c .answer;
+      entries = c .entries;
+      told = c .told;
+    }
 
 module _ (w : Work) (j : Job) (k : ℕ) (c : Carried w j k) (h : k ≤ j .stores) where
   shaped : wellShaped w ≡ true
@@ -87,6 +104,37 @@ module _ (w : Work) (j : Job) (k : ℕ) (c : Carried w j k) (h : k ≤ j .stores
   carried-answer b = elim (decLt k (j .stores)) [
     | yes l ↦ rw (lt-ltb k (j .stores) l) (carried-early l b)
     | no g ↦ rw (le-ltb k (j .stores) (omega arith)) (carried-late (omega arith) b)
+  ]
+
+  -- the entry that is taken
+  entry-early : k < j .stores → (b : List ℕ) → entryTaken (some (record { work = w; boot = true })) b ≡ recorded number.storesLeft 0 b
+  unfolding entryResult entryBuffer entryNumber finished
+  entry-early l b = rw (shaped, ne-eqb (w .position) (numberOf (w .kind)) (λ e. omega (arith, c .number, c .position)))
+
+  entry-late : k ≡ j .stores → (b : List ℕ)
+      → entryTaken (some (record { work = w; boot = true })) b
+      ≡ cond (ltb (length b) (length (journalBytes (entryFor (j .task))))) (recorded number.shortEntry 0 b)
+      (recorded 0 (length (journalBytes (entryFor (j .task)))) (journalBytes (entryFor (j .task)) ++ drop (length (journalBytes (entryFor (j .task)))) b))
+  unfolding entryResult entryBuffer entryNumber finished takenNumber takenBuffer
+  entry-late e b =
+      rw (shaped, eq-eqb (w .position) (numberOf (w .kind)) (omega (arith, c .number, c .position)))
+      (ap (λ (es : List Entry). taken (journalBytes es) (ltb (length b) (length (journalBytes es)))) (c .entries)
+      ∙ by-test (journalBytes (entryFor (j .task))) (ltb (length b) (length (journalBytes (entryFor (j .task))))) refl)
+    where
+      taken : List ℕ → Bool → Result
+      taken l x =
+          recorded (cond x number.shortEntry 0) (cond (eqb (cond x number.shortEntry 0) 0) (length l) 0)
+          (cond (eqb (cond x number.shortEntry 0) 0) (cond (eqb (cond (ltb (length b) (length l)) number.shortEntry 0) 0) (l ++ drop (length l) b) b) b)
+
+      by-test : (l : List ℕ) (x : Bool) → ltb (length b) (length l) ≡ x
+          → taken l x ≡ cond x (recorded number.shortEntry 0 b) (recorded 0 (length l) (l ++ drop (length l) b))
+      by-test l true q = refl
+      by-test l false q = rw q
+
+  pub carried-entry : (b : List ℕ) → entryTaken (some (record { work = w; boot = true })) b ≡ ledgerEntry (some j) k b
+  carried-entry b = elim (decLt k (j .stores)) [
+    | yes l ↦ rw (lt-ltb k (j .stores) l) (entry-early l b)
+    | no g ↦ rw (le-ltb k (j .stores) (omega arith)) (entry-late (omega arith) b)
   ]
 
 -- opened for the job's task at the image `base`
@@ -164,7 +212,7 @@ release {l} {h = h} {k = suc k} {t = t} {u} (going {j = j} base v g f w n p q r 
 seam : (a : List ℕ) → take (length a) (a ++ zeros (answerMax - length a)) ≡ a
 seam a = take-append-seam a (zeros (answerMax - length a))
 
-module _ {l : List ℕ} {h : List Task} {t u : Bool} (g : Ground l h t u) (tk : Task) (a : List ℕ) (f : Fits h t u tk) (s : length a ≤ answerMax) where
+module _ {l : List ℕ} {h : List Task} {t u : Bool} (g : Ground l h t u) (tk : Task) (a : List ℕ) (f : Fits h t u tk) (s : length a ≤ answerMax) (told : Told tk) where
   job : Job
   job = jobAt (stateOf h .chain) tk a
 
@@ -180,12 +228,15 @@ module _ {l : List ℕ} {h : List Task} {t u : Bool} (g : Ground l h t u) (tk : 
               position = refl;
               long = refl;
               answer = seam a;
+              entries = entry-at l tk a told;
+              told = told;
             };
         plans = plan-answer l tk a;
         count = length-at l tk ∙ ap numberOf (kind-same g tk f);
       }
 
-  opened-left : leftOf (workAt l tk a) ≡ job .stores
+  pub opened-left : leftOf (workAt l tk a) ≡ storesAt (stateOf h .chain) tk
+  unfolding job
   opened-left = carried-left (workAt l tk a) job 0 (fresh .carried) zero-le ∙ sub-zero (job .stores)
 
   -- a task with no stores is only opened where nothing is unfinished
@@ -237,8 +288,8 @@ module _ (m : Machine) (b : Ledger) (i : Related m b) where
   after-request (refused n) f = record { related = i; result = refl }
   after-request (accepted tk a) f =
       record {
-        related = start ground tk a (f .0) (f .1) false (f .2);
-        result = λ j. opened (kind-now ground tk a (f .0) (f .1) j) (opened-left ground tk a (f .0) (f .1) j) (answer-held ground tk a (f .0) (f .1) j);
+        related = start ground tk a (f .0) (f .1) (f .3) false (f .2);
+        result = λ j. opened (kind-now ground tk a (f .0) (f .1) (f .3) j) (opened-left ground tk a (f .0) (f .1) (f .3) j) (answer-held ground tk a (f .0) (f .1) (f .3) j);
       }
 
   after-boot : (R : Ruling) → FitsRuling (b .history) gone (b .unfinished) true R
@@ -247,8 +298,8 @@ module _ (m : Machine) (b : Ledger) (i : Related m b) where
   after-boot (refused n) f = record { related = i; result = refl }
   after-boot (accepted tk a) f =
       record {
-        related = start ground tk a (f .0) (f .1) true (f .2);
-        result = λ j. booted (outcomeNumber (outcomeOf (factsOf tk .boot))) (kind-now ground tk a (f .0) (f .1) j) (opened-left ground tk a (f .0) (f .1) j);
+        related = start ground tk a (f .0) (f .1) (f .3) true (f .2);
+        result = λ j. booted (outcomeNumber (outcomeOf (factsOf tk .boot))) (kind-now ground tk a (f .0) (f .1) (f .3) j) (opened-left ground tk a (f .0) (f .1) (f .3) j);
       }
 
   sim-request : (r : Request) → Together (step m (request r)) (ledgerStep b (request r))
@@ -273,7 +324,7 @@ module _ (m : Machine) (b : Ledger) (i : Related m b) where
       (sym same)
       (after-boot (updateRuling b x v)
       (decided (FitsRuling (b .history) gone (b .unfinished) true) (bootRules x) refused _ (λ n. tt) (λ n. tt)
-      (λ n. fits-boot (b .history) gone (b .unfinished) v x)))
+      (λ n. fits-boot (b .history) gone (b .unfinished) v x (negated (inputsOk x) (n .0)))))
     where
       same : cond (not (eqb (length (m .image)) imageWords)) (refused number.wrongImage) (bootRuling (bootRules x) (updateTask (intact (m .image)) v x))
           ≡ updateRuling b x v
@@ -298,6 +349,18 @@ answer-both (going {p = p} {j = j} {k} base v g f w n q e c b) a = carried-answe
 sim-answer : (m : Machine) (b : Ledger) → Related m b → (a : List ℕ) → Together (step m (answer a)) (ledgerStep b (answer a))
 unfolding step ledgerStep
 sim-answer m b i a = record { related = i; result = answer-both i a }
+
+-- ---- an entry
+
+entry-both : {l : List ℕ} {w : Option Hand} {h : List Task} {d : Option Job} {k : ℕ} {t u : Bool} → Inv l w h d k t u → (a : List ℕ)
+    → entryTaken w a ≡ ledgerEntry d k a
+entry-both (empty g) a = refl
+entry-both (done {p = p} {j = j} {k} g e c b) a = carried-entry (p .work) j k c (omega arith) a
+entry-both (going {p = p} {j = j} {k} base v g f w n q e c b) a = carried-entry (p .work) j k (w .carried) (omega arith) a
+
+sim-entry : (m : Machine) (b : Ledger) → Related m b → (a : List ℕ) → Together (step m (entry a)) (ledgerStep b (entry a))
+unfolding step ledgerStep
+sim-entry m b i a = record { related = i; result = entry-both i a }
 
 -- ---- a store
 
@@ -387,6 +450,7 @@ sim m b (request r) i = sim-request m b i r
 sim m b (updateBoot x v) i = sim-boot m b i x v
 sim m b store i = sim-store m b i
 sim m b (answer a) i = sim-answer m b i a
+sim m b (entry a) i = sim-entry m b i a
 sim m b powerCut i = sim-cut m b i
 
 pub sim-run : (cs : List Call) (m : Machine) (b : Ledger) → Related m b → Related (run step m cs) (run ledgerStep b cs)

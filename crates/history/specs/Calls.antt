@@ -7,6 +7,7 @@ use mathlib.Core.Option.{Option, none, some}
 use lib.Dec.{eqb}
 use lib.ListN.{take}
 use Rattle.work.specs.Entries.{leftOf, storeResult, storeImage, answerResult, answerBuffer}
+use Rattle.work.specs.Recorded.{entryResult, entryBuffer}
 use Rattle.table.specs.declared.Kind.{Kind}
 use Rattle.work.specs.declared.Work.{Work}
 use Rattle.opening.specs.Tasks.{Request, BootInputs}
@@ -16,12 +17,13 @@ use Rattle.opening.specs.declared.Status.the-variants as status
 use Rattle.opening.specs.declared.BootStatus.{BootStatus}
 use Rattle.opening.specs.declared.BootStatus.the-variants as bootStatus
 
--- what a list of demand 3 has: an opening of a request or an update boot, a store, an answer into a buffer, a power cut; "no cold boot follows"
+-- what a list of demand 3 has: an opening of a request or an update boot, a store, an answer or a journal entry (document 02, §3) into a buffer, a power
+-- cut; "no cold boot follows"
 pub data Call : Type 0 where
   request : Request → Call
   updateBoot : BootInputs → (verdict : Bool) → Call
   store : Call
-  answer : (buffer : List ℕ) → Call
+  answer entry : (buffer : List ℕ) → Call
   powerCut : Call
 
 -- all that can be done to a unit: a cold boot opened, or a call
@@ -41,7 +43,9 @@ pub data Result : Type 0 where
   stored : (left : ℕ) → Result
   -- an answer was asked for: its number, the bytes written, and the buffer afterwards
   answered : (number written : ℕ) (buffer : List ℕ) → Result
-  -- with no work in hand a store or an answer does nothing
+  -- the same of a journal entry
+  recorded : (number written : ℕ) (buffer : List ℕ) → Result
+  -- with no work in hand a store, an answer or an entry does nothing
   noWork : Result
   -- the power was cut
   cutOff : Result
@@ -87,12 +91,18 @@ abbrev pub answerTaken : Option Hand → List ℕ → Result
 answerTaken none buffer = noWork
 answerTaken (some h) buffer = let r = answerResult (h .work) buffer in answered (r .number) (r .written) (answerBuffer (h .work) buffer)
 
+-- a journal entry is "taken as its answer is"
+abbrev pub entryTaken : Option Hand → List ℕ → Result
+entryTaken none buffer = noWork
+entryTaken (some h) buffer = let r = entryResult (h .work) buffer in recorded (r .number) (r .written) (entryBuffer (h .work) buffer)
+
 -- one call. A power cut leaves the image as it is, each store being whole, and "the work in hand goes"
 unfoldable pub step : Machine → Call → Step Machine
 step m (request r) = let o = openRequest (m .image) r in afterRequest m (o .work) (o .status)
 step m (updateBoot x verdict) = let o = openUpdateBoot (m .image) x verdict in afterBoot m (o .work) (o .status)
 step m store = afterStore m (m .hand)
 step m (answer buffer) = record { state = m; result = answerTaken (m .hand) buffer }
+step m (entry buffer) = record { state = m; result = entryTaken (m .hand) buffer }
 step m powerCut = record { state = record { image = m .image; hand = none }; result = cutOff }
 
 -- one act

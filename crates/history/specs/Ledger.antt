@@ -17,9 +17,11 @@ use Rattle.opening.specs.Values.{extendedByBoot, childNode, rootNode}
 use Rattle.opening.specs.Tasks.{BootInputs, Task, noStores, keptBoot, disableCommand, disablingBoot, stash, update, coldBoot, extension, Ruling, refused, accepted, View}
 use Rattle.opening.specs.Rules.{commandOf, ruled, requestRules, bootRules, bootRuling, updateTask}
 use Rattle.opening.specs.Works.{factsOf}
+use Rattle.opening.specs.Recorded.{entryFor}
+use Rattle.journal.specs.Entries.{journalBytes}
 use Rattle.opening.specs.Openings.{outcomeOf, outcomeNumber}
 use Rattle.opening.specs.declared.Outcome.{Outcome}
-use Rattle.history.specs.Calls.{Call, request, updateBoot, store, answer, powerCut, Result, refusal, opened, booted, stored, answered, noWork, cutOff, Step}
+use Rattle.history.specs.Calls.{Call, request, updateBoot, store, answer, entry, powerCut, Result, refusal, opened, booted, stored, answered, recorded, noWork, cutOff, Step}
 
 -- ---- registers and chain of a history: demand 2's definitions, applied in order
 
@@ -208,12 +210,22 @@ ledgerAnswer (some j) made buffer =
     (cond (ltb (length buffer) (length (j .answer))) (answered number.shortBuffer 0 buffer)
     (answered 0 (length (j .answer)) (j .answer ++ drop (length (j .answer)) buffer)))
 
+-- a journal entry is "taken as its answer is": 7, or 23 where the buffer is too short, or the task's entry at its front; "no stores, no bytes"
+abbrev pub ledgerEntry : Option Job → ℕ → List ℕ → Result
+ledgerEntry none made buffer = noWork
+ledgerEntry (some j) made buffer =
+    let bytes = journalBytes (entryFor (j .task)) in
+    cond (ltb made (j .stores)) (recorded number.storesLeft 0 buffer)
+    (cond (ltb (length buffer) (length bytes)) (recorded number.shortEntry 0 buffer)
+    (recorded 0 (length bytes) (bytes ++ drop (length bytes) buffer)))
+
 -- one call; "Refused calls change nothing."
 unfoldable pub ledgerStep : Ledger → Call → Step Ledger
 ledgerStep b (request r) = ledgerRequest b (ruled (requestRules (viewOf (b .history) (b .torn) (b .unfinished)) r) (commandOf (r .code)) r)
 ledgerStep b (updateBoot x verdict) = ledgerBoot b (updateRuling b x verdict)
 ledgerStep b store = ledgerStore b (b .hand)
 ledgerStep b (answer buffer) = record { state = b; result = ledgerAnswer (b .hand) (b .made) buffer }
+ledgerStep b (entry buffer) = record { state = b; result = ledgerEntry (b .hand) (b .made) buffer }
 ledgerStep b powerCut = record { state = letGo b; result = cutOff }
 
 -- after the cold boot's last store

@@ -33,4 +33,5 @@ image-figures =
       rootParent = refl;
       rootKind = refl;
       answer = refl;
+      inputs = refl;
     }

@@ -1,6 +1,6 @@
 -- Document 01's figures of the image, as document 02 leaves them, as numerals: what a change of the geometry edits by hand. Nothing rests on them. Assumes nothing.
 use mathlib.Core.Path.{_≡_}
-use Rattle.layout.specs.Sizes.{nodeCount, nodeWords, registerCount, registerWords, markAt, attestationAt, secretAt, registersAt, nodesAt, imageWords, registerAt, currentRegister, journeyRegister, stashRegister, extendFirst, extendLast, tagAt, handleAt, handleWords, flagsAt, currentAt, cumulativeAt, typeAt, localityAt, svnAt, rootMark, rootType, answerMax}
+use Rattle.layout.specs.Sizes.{nodeCount, nodeWords, registerCount, registerWords, markAt, attestationAt, secretAt, registersAt, nodesAt, imageWords, registerAt, currentRegister, journeyRegister, stashRegister, extendFirst, extendLast, tagAt, handleAt, handleWords, flagsAt, currentAt, cumulativeAt, typeAt, localityAt, svnAt, rootMark, rootType, answerMax, inputBytes}
 
 pub record ImageFigures : Type 0 where
   -- "the image is 1,520 words" (document 02, §8)
@@ -39,3 +39,5 @@ pub record ImageFigures : Type 0 where
   pub rootKind : rootType ≡ 0x4D4A5452
   -- the longest answer of the table of commands
   pub answer : answerMax ≡ 104
+  -- a boot's two digests of 48 bytes
+  pub inputs : inputBytes ≡ 96

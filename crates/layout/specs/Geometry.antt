@@ -1,5 +1,5 @@
 -- The geometry as one record, to which the code's constants are tied. Assumes nothing.
-use Rattle.layout.specs.Sizes.{nodeCount, nodeWords, registerCount, registerWords, markAt, attestationAt, secretAt, registersAt, nodesAt, imageWords, registerAt, currentRegister, journeyRegister, stashRegister, extendFirst, extendLast, handleAt, handleWords, flagsAt, currentAt, cumulativeAt, typeAt, localityAt, svnAt, rootMark, retiredWord, internalFlag, rootType, answerMax}
+use Rattle.layout.specs.Sizes.{nodeCount, nodeWords, registerCount, registerWords, markAt, attestationAt, secretAt, registersAt, nodesAt, imageWords, registerAt, currentRegister, journeyRegister, stashRegister, extendFirst, extendLast, handleAt, handleWords, flagsAt, currentAt, cumulativeAt, typeAt, localityAt, svnAt, rootMark, retiredWord, internalFlag, rootType, answerMax, inputBytes}
 use Rattle.layout.specs.declared.geometry.Geometry.{Geometry}
 
 abbrev pub geometryOf : Geometry
@@ -30,6 +30,7 @@ geometryOf =
       «locality_at» = localityAt;
       «svn_at» = svnAt;
       «answer_max» = answerMax;
+      «input_bytes» = inputBytes;
       «root_mark» = rootMark;
       «retired_word» = retiredWord;
       «internal_flag» = internalFlag;

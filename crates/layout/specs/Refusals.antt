@@ -66,3 +66,21 @@ dpeFull = 1
 
 abbrev pub dpeOff : ℕ
 dpeOff = 2
+
+-- the journal (document 02, §3): "20 kind not listed, 21 number too long or too large, 22 cut entry"
+abbrev pub unlistedKind : ℕ
+unlistedKind = 20
+
+abbrev pub badNumber : ℕ
+badNumber = 21
+
+abbrev pub cutEntry : ℕ
+cutEntry = 22
+
+-- "then 23 .. if the buffer is too short" for a work's entry
+abbrev pub shortEntry : ℕ
+shortEntry = 23
+
+-- "24 one that the unit couldn't have counted there"
+abbrev pub uncounted : ℕ
+uncounted = 24

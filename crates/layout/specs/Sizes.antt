@@ -118,3 +118,8 @@ rootType = 0x4D4A5452
 -- the longest answer in the table of commands
 abbrev pub answerMax : ℕ
 answerMax = 104
+
+-- the inputs that a work keeps for its journal entry (document 02, §3): a boot's two digests, or the one digest of a stash or an extension
+-- with zeros behind it
+abbrev pub inputBytes : ℕ
+inputBytes = 96

@@ -12,6 +12,7 @@ use crate::FLAGS_AT;
 use crate::HANDLE_AT;
 use crate::HANDLE_WORDS;
 use crate::IMAGE_WORDS;
+use crate::INPUT_BYTES;
 use crate::INTERNAL_FLAG;
 use crate::LOCALITY_AT;
 use crate::MARK_AT;
@@ -58,6 +59,7 @@ pub struct Geometry {
     pub locality_at: usize,
     pub svn_at: usize,
     pub answer_max: usize,
+    pub input_bytes: usize,
     pub root_mark: u32,
     pub retired_word: u32,
     pub internal_flag: u32,
@@ -93,6 +95,7 @@ pub fn constants() -> Geometry
         locality_at: LOCALITY_AT,
         svn_at: SVN_AT,
         answer_max: ANSWER_MAX,
+        input_bytes: INPUT_BYTES,
         root_mark: ROOT_MARK,
         retired_word: RETIRED_WORD,
         internal_flag: INTERNAL_FLAG,

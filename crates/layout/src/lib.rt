@@ -70,3 +70,6 @@ pub const ROOT_TYPE: u32 = 0x4D4A5452;
 
 // The longest answer, in bytes.
 pub const ANSWER_MAX: usize = 104;
+
+// The inputs that a work keeps for its journal entry, in bytes: a boot's two digests.
+pub const INPUT_BYTES: usize = 96;

@@ -35,3 +35,14 @@ pub const DPE_ACCEPTED: u32 = 0;
 pub const DPE_FULL: u32 = 1;
 
 pub const DPE_OFF: u32 = 2;
+
+// The journal's.
+pub const UNLISTED_KIND: u32 = 20;
+
+pub const BAD_NUMBER: u32 = 21;
+
+pub const CUT_ENTRY: u32 = 22;
+
+pub const SHORT_ENTRY: u32 = 23;
+
+pub const UNCOUNTED: u32 = 24;

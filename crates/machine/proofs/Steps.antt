@@ -8,20 +8,21 @@ use mathlib.Core.Option.{some}
 use lib.Dec.{eqb}
 use lib.ListN.{length}
 use Rattle.work.specs.declared.Work.{Work}
-use Rattle.history.specs.Calls.{Machine, Step, Result, refusal, opened, booted, stored, answered, noWork, cutOff}
+use Rattle.history.specs.Calls.{Machine, Step, Result, refusal, opened, booted, stored, answered, recorded, noWork, cutOff}
 use Rattle.machine.specs.Call.{handOf, machineOf, resultOf, stepOf, Makes, bufferAfter}
 use Rattle.machine.specs.declared.InHand.{InHand}
 use Rattle.machine.specs.declared.Report.{Report}
-use Rattle.machine.specs.declared.Report.the-variants.{Refused, Opened, Booted, Stored, Answered, NoWork, CutOff}
+use Rattle.machine.specs.declared.Report.the-variants.{Refused, Opened, Booted, Stored, Answered, Recorded, NoWork, CutOff}
 use Rattle.machine.specs.declared.Made.{Made}
 
--- the buffer of an answer
+-- the buffer of an answer or an entry
 bufferIn : Result → List ℕ
 bufferIn (refusal n) = []
 bufferIn (opened k n a) = []
 bufferIn (booted o k n) = []
 bufferIn (stored n) = []
 bufferIn (answered n w b) = b
+bufferIn (recorded n w b) = b
 bufferIn noWork = []
 bufferIn cutOff = []
 
@@ -32,6 +33,9 @@ same-buffer h (Opened n) x e b = ap (λ (y : Result). bufferAfter y b) (sym (e b
 same-buffer h (Booted o n) x e b = ap (λ (y : Result). bufferAfter y b) (sym (e b))
 same-buffer h (Stored n) x e b = ap (λ (y : Result). bufferAfter y b) (sym (e b))
 same-buffer h (Answered n w) x e b =
+    let z : _≡_ {A = List ℕ} [] (0 ∷ []) = ap bufferIn (e [] ∙ sym (e (0 ∷ []))) in
+    absurd (omega (arith, ap length z))
+same-buffer h (Recorded n w) x e b =
     let z : _≡_ {A = List ℕ} [] (0 ∷ []) = ap bufferIn (e [] ∙ sym (e (0 ∷ []))) in
     absurd (omega (arith, ap length z))
 same-buffer h NoWork x e b = ap (λ (y : Result). bufferAfter y b) (sym (e b))

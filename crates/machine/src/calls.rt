@@ -6,7 +6,7 @@ ghost use Prim.Native.Nat.{ℕ};
 ghost use lib.Dec.{eqb};
 ghost use Rattle.work.specs.Entries.{leftOf};
 ghost use Rattle.opening.specs.Tasks.{requestOf, bootOf};
-ghost use Rattle.history.specs.Calls.{step, act, openCold, request, updateBoot, store, answer, powerCut, afterRequest, afterBoot};
+ghost use Rattle.history.specs.Calls.{step, act, openCold, request, updateBoot, store, answer, entry, powerCut, afterRequest, afterBoot};
 ghost use Rattle.machine.specs.Call.{machineOf, stepOf, Makes, bufferAfter};
 use crate::InHand;
 use crate::Made;
@@ -156,6 +156,19 @@ pub(crate) fn answer_call(hand: InHand, buffer: &mut [u8]) -> Made
     let work = hand.work;
     let answered = work.answer(buffer);
     made(hand, Report::Answered(answered.number, answered.written))
+}
+
+// The journal entry of the work in hand into a buffer. With none in hand it does nothing.
+pub(crate) fn entry_call(hand: InHand, buffer: &mut [u8]) -> Made
+    ensures { λ r. ⌜ ((image : List ℕ) → stepOf r image (now (buffer .exit)) ≡ step (machineOf image hand) (entry (now (buffer .entry)))) ⌝ }
+    ensures { λ r. ⌜ ((image : List ℕ) → now (buffer .exit) ≡ bufferAfter (step (machineOf image hand) (entry (now (buffer .entry))) .result) (now (buffer .entry))) ⌝ }
+{
+    if !hand.present {
+        return made(hand, Report::NoWork);
+    }
+    let work = hand.work;
+    let taken = work.entry(buffer);
+    made(hand, Report::Recorded(taken.number, taken.written))
 }
 
 // A power cut: the work in hand goes.

@@ -9,6 +9,7 @@ ghost use Rattle.machine.specs.Call.{machineOf, actOf, stepOf, bufferAft
 use crate::calls::answer_call;
 use crate::calls::cold_boot_call;
 use crate::calls::cut_call;
+use crate::calls::entry_call;
 use crate::calls::request_call;
 use crate::calls::store_call;
 use crate::calls::update_boot_call;
@@ -22,14 +23,15 @@ pub struct InHand {
     pub work: Work,
 }
 
-// What an act reports: a refusal's number, or what was made, with the stores left; of an answer its
-// number and the bytes written.
+// What an act reports: a refusal's number, or what was made, with the stores left; of an answer or a
+// journal entry its number and the bytes written.
 pub enum Report {
     Refused(u32),
     Opened(usize),
     Booted(Outcome, usize),
     Stored(usize),
     Answered(u32, usize),
+    Recorded(u32, usize),
     NoWork,
     CutOff,
 }
@@ -51,7 +53,9 @@ pub const COLD_BOOT: u8 = 3;
 
 pub const ANSWER: u8 = 4;
 
-pub const POWER_CUT: u8 = 5;
+pub const ENTRY: u8 = 5;
+
+pub const POWER_CUT: u8 = 6;
 
 // One act.
 pub fn make(
@@ -77,6 +81,7 @@ pub fn make(
         STORE => store_call(image, hand),
         COLD_BOOT => cold_boot_call(&image[..], hand, runtime, manifest, secret),
         ANSWER => answer_call(hand, buffer),
+        ENTRY => entry_call(hand, buffer),
         _ => cut_call(hand),
     }
 }

@@ -40,31 +40,32 @@ after-step k j w l h = let e : k ≡ suc j = omega arith in ap (λ (n : ℕ). af
 pub after-none : (k : ℕ) (w : Work) (l : List ℕ) → k ≡ 0 → afterStores k w l ≡ record { work = w; image = l }
 after-none k w l h = ap (λ (n : ℕ). afterStores n w l) h
 
--- ---- the answer and the image's length stay
+-- ---- what does not depend on the position, and the image's length, stay
+
+module _ {A : Type 0} (f : Work → A) (same : (w : Work) → f (moved w) ≡ f w) where
+  store-kept : (w : Work) (l : List ℕ) → f (storeResult w l .work) ≡ f w
+  unfolding storeResult
+  store-kept w l = by-test (eqb (storeNumber w l) 0)
+    where
+      by-test : (b : Bool) → f (cond {A = Stored} b (record { number = 0; work = moved w }) (record { number = storeNumber w l; work = w }) .work) ≡ f w
+      by-test true = same w
+      by-test false = refl
+
+  kept-after : (n : ℕ) (w : Work) (l : List ℕ) → f (afterStores n w l .work) ≡ f w
+  kept-after zero w l = refl
+  kept-after (suc n) w l = kept-after n (storeResult w l .work) (storeImage w l) ∙ store-kept w l
+
+  pub all-kept : (w : Work) (l : List ℕ) → f (allStores w l .work) ≡ f w
+  unfolding allStores
+  all-kept w l = kept-after (leftOf w) w l
 
 -- the same answer in both works
 pub record SameAnswer (w v : Work) : Type 0 where
   pub bytes : w .answer ≡ v .answer
   pub len : w .«answer_len» ≡ v .«answer_len»
 
-store-answer : (w : Work) (l : List ℕ) → SameAnswer (storeResult w l .work) w
-unfolding storeResult
-store-answer w l = by-test (eqb (storeNumber w l) 0)
-  where
-    by-test : (b : Bool) → SameAnswer (cond {A = Stored} b (record { number = 0; work = moved w }) (record { number = storeNumber w l; work = w }) .work) w
-    by-test true = record { bytes = refl; len = refl }
-    by-test false = record { bytes = refl; len = refl }
-
-answer-stays : (n : ℕ) (w : Work) (l : List ℕ) → SameAnswer (afterStores n w l .work) w
-answer-stays zero w l = record { bytes = refl; len = refl }
-answer-stays (suc n) w l =
-    let r = answer-stays n (storeResult w l .work) (storeImage w l) in
-    let s = store-answer w l in
-    record { bytes = r .bytes ∙ s .bytes; len = r .len ∙ s .len }
-
 pub all-answer : (w : Work) (l : List ℕ) → SameAnswer (allStores w l .work) w
-unfolding allStores
-all-answer w l = answer-stays (leftOf w) w l
+all-answer w l = record { bytes = all-kept (λ (x : Work). x .answer) (λ x. refl) w l; len = all-kept (λ (x : Work). x .«answer_len») (λ x. refl) w l }
 
 store-length : (w : Work) (l : List ℕ) → length (storeImage w l) ≡ length l
 unfolding storeImage

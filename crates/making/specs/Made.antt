@@ -1,8 +1,8 @@
--- Works as an opening makes them: the values to be stored, the position, the prepared answer (document 01, "Work, one word at a time"). Assumes nothing.
+-- Works as an opening makes them: the values to be stored and the inputs to be told, the position, the prepared answer (document 01, "Work, one word at a time"). Assumes nothing.
 use Prim.Native.Nat.{ℕ, _-_}
 use mathlib.Core.List.{List, _++_}
 use lib.ListN.{length}
-use Rattle.layout.specs.Sizes.{nodeWords, registerWords, answerMax}
+use Rattle.layout.specs.Sizes.{nodeWords, registerWords, answerMax, inputBytes}
 use Rattle.layout.specs.Words.{zeros}
 use Rattle.table.specs.declared.Kind.{Kind}
 use Rattle.table.specs.declared.Kind.the-variants.{Nothing}
@@ -11,9 +11,16 @@ use Rattle.making.specs.declared.Values.{Values}
 use Rattle.making.specs.declared.Answer.{Answer}
 use Rattle.work.specs.Entries.{workFrom}
 
--- words that a kind does not store are zero
+-- words that a kind does not store are zero, and so are the inputs of a kind that has none to tell
 abbrev pub noValues : Values
-noValues = record { register = zeros registerWords; journey = zeros registerWords; node = zeros nodeWords; secret = zeros registerWords }
+noValues =
+    record {
+      register = zeros registerWords;
+      journey = zeros registerWords;
+      node = zeros nodeWords;
+      secret = zeros registerWords;
+      inputs = zeros inputBytes;
+    }
 
 -- an answer in the work's array: bytes past it are zero
 abbrev pub answerIn : List ℕ → Answer
@@ -23,7 +30,7 @@ abbrev pub noAnswer : Answer
 noAnswer = record { bytes = zeros answerMax; len = 0 }
 
 abbrev pub madeWork : Kind → ℕ → Values → Answer → Work
-madeWork k position v a = workFrom k position (v .register) (v .journey) (v .node) (v .secret) (a .bytes) (a .len)
+madeWork k position v a = workFrom k position (v .register) (v .journey) (v .node) (v .secret) (a .bytes) (a .len) (v .inputs)
 
 -- a work of which no store is made, with the answer a
 unfoldable pub workWith : Kind → Values → List ℕ → Work

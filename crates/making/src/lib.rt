@@ -5,17 +5,19 @@ ghost use mathlib.Core.Path.{_≡_};
 ghost use mathlib.Core.List.{[]};
 ghost use Rattle.making.specs.Made.{noValues, noAnswer, madeWork, plainWork, refusedWork};
 use layout::ANSWER_MAX;
+use layout::INPUT_BYTES;
 use layout::NODE_WORDS;
 use layout::REGISTER_WORDS;
 use table::Kind;
 use work::Work;
 
-// The words that a work will store, as its fields of these names.
+// The words that a work will store and the inputs that its entry tells, as its fields of these names.
 pub struct Values {
     pub register: [u32; REGISTER_WORDS],
     pub journey: [u32; REGISTER_WORDS],
     pub node: [u32; NODE_WORDS],
     pub secret: [u32; REGISTER_WORDS],
+    pub inputs: [u8; INPUT_BYTES],
 }
 
 // An answer: its first `len` bytes; the others are zero.
@@ -24,7 +26,7 @@ pub struct Answer {
     pub len: usize,
 }
 
-// No word to store.
+// No word to store, and no input to tell.
 pub fn no_values() -> Values
     ensures { λ r. ⌜ r ≡ noValues ⌝ }
 {
@@ -33,6 +35,7 @@ pub fn no_values() -> Values
         journey: [0u32; REGISTER_WORDS],
         node: [0u32; NODE_WORDS],
         secret: [0u32; REGISTER_WORDS],
+        inputs: [0u8; INPUT_BYTES],
     }
 }
 
@@ -54,6 +57,7 @@ pub fn new_work(kind: Kind, values: Values, answer: Answer) -> Work
     let journey = values.journey;
     let node = values.node;
     let secret = values.secret;
+    let inputs = values.inputs;
     let bytes = answer.bytes;
     Work {
         kind,
@@ -64,6 +68,7 @@ pub fn new_work(kind: Kind, values: Values, answer: Answer) -> Work
         secret,
         answer: bytes,
         answer_len: answer.len,
+        inputs,
     }
 }
 

@@ -49,6 +49,9 @@ module _ (n : Node) where
   locality-begins : offset (fieldsOf n) 7 ≡ localityAt
   locality-begins = omega (arith, length-handle (n .handle), length48 (n .current), length48 (n .cumulative))
 
+  svn-begins : offset (fieldsOf n) 8 ≡ svnAt
+  svn-begins = omega (arith, length-handle (n .handle), length48 (n .current), length48 (n .cumulative))
+
   -- ---- the fields by name
 
   pub row-first : getD (nodeRow n) 0 0 ≡ 1 + 2 ^ 16 * n .parent
@@ -72,6 +75,9 @@ module _ (n : Node) where
 
   pub row-locality : getD (nodeRow n) localityAt 0 ≡ n .locality
   row-locality = field-word 7 0 localityAt locality-begins (omega arith)
+
+  pub row-svn : getD (nodeRow n) svnAt 0 ≡ n .svn
+  row-svn = field-word 8 0 svnAt svn-begins (omega arith)
 
   pub store-handle : (h : List ℕ) → sets (nodeRow n) handleAt (handleRow h) ≡ nodeRow (withHandle h n)
   unfolding nodeRow

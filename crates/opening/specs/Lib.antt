@@ -3,4 +3,5 @@ pub mod Tasks
 pub mod Values
 pub mod Rules
 pub mod Works
+pub mod Recorded
 pub mod Openings

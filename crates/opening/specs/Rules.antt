@@ -98,16 +98,19 @@ abbrev pub extendLength : ℕ
 extendLength = 56
 
 -- stash: declined while off, refused where the nodes are not well formed, declined where no node is free, in that order
+abbrev pub stashRules : View → Measurement → List Rule
+stashRules v m =
+    declines number.dpeOff (not (v .on))
+    ∷ refuses number.notWellFormed (not (wellFormed nodeCount (v .nodes)))
+    ∷ declines number.dpeFull (leb nodeCount (lowestFree nodeCount (v .nodes)))
+    ∷ []
+
 abbrev pub stashMeasurement : Command
 stashMeasurement =
     record {
       known = true;
       lengthOk = λ b. eqb (length b) stashLength;
-      rules = λ v r.
-          declines number.dpeOff (not (v .on))
-          ∷ refuses number.notWellFormed (not (wellFormed nodeCount (v .nodes)))
-          ∷ declines number.dpeFull (leb nodeCount (lowestFree nodeCount (v .nodes)))
-          ∷ [];
+      rules = λ v r. stashRules v (measurementIn r);
       task = λ r. stash (measurementIn r);
       answer = λ r. bytes4 number.dpeAccepted;
     }
@@ -138,15 +141,15 @@ verifySignature =
     }
 
 -- 12 for a register outside those that may be extended, "after 12" 13 while off; it does not look at the nodes (document 02, §1)
+abbrev pub extendRules : View → RegisterExtension → List Rule
+extendRules v x = refuses number.wrongRegister (not (extendable (x .register))) ∷ refuses number.attestationOff (not (v .on)) ∷ []
+
 abbrev pub extendRegister : Command
 extendRegister =
     record {
       known = true;
       lengthOk = λ b. eqb (length b) extendLength;
-      rules = λ v r.
-          refuses number.wrongRegister (not (extendable (extensionIn r .register)))
-          ∷ refuses number.attestationOff (not (v .on))
-          ∷ [];
+      rules = λ v r. extendRules v (extensionIn r);
       task = λ r. extension (extensionIn r);
       answer = λ r. [];
     }

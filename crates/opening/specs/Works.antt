@@ -2,7 +2,7 @@
 -- §1). Assumes nothing.
 use Prim.Native.Nat.{ℕ}
 use mathlib.Core.Bool.{Bool, true, false}
-use mathlib.Core.List.{List}
+use mathlib.Core.List.{List, _++_}
 use mathlib.Core.Option.{Option, none, some}
 use Rattle.layout.specs.Sizes.{nodeCount, nodeWords, registerWords, registerAt, journeyRegister, stashRegister}
 use Rattle.layout.specs.Words.{words48, bytes48, part, zeros}
@@ -20,7 +20,7 @@ use Rattle.opening.specs.Tasks.{BootInputs, Measurement, RegisterExtensi
 use Rattle.opening.specs.declared.Outcome.{Outcome}
 use Rattle.opening.specs.declared.Outcome.the-variants.{Cold, Kept, Updated, Disabled}
 
--- ---- the values that a work will store, at an image
+-- ---- the values that a work will store, at an image, and the inputs that its journal entry tells
 
 -- the 48 bytes of a register
 unfoldable pub registerIn : List ℕ → ℕ → List ℕ
@@ -30,6 +30,14 @@ registerIn image i = bytes48 (part registerWords image (registerAt i))
 abbrev pub registerExtended : List ℕ → ℕ → List ℕ → List ℕ
 registerExtended image i d = words48 (extended (registerIn image i) d)
 
+-- the inputs of a stash or an extension that are not in its node or its kind: the digest
+abbrev pub digestTold : List ℕ → List ℕ
+digestTold d = d ++ zeros 48
+
+-- "a boot's digests" (document 02, §3), and never the secret
+abbrev pub bootTold : BootInputs → List ℕ
+bootTold x = x .runtime ++ x .manifest
+
 -- stash: PCR31 extended by the digest, and the new node below the holder of the default handle
 abbrev pub stashValues : Measurement → List ℕ → Values
 stashValues x image =
@@ -38,6 +46,7 @@ stashValues x image =
       journey = zeros registerWords;
       node = nodeRow (childNode (nodeWith nodeCount (treeIn image) defaultWords) x);
       secret = zeros registerWords;
+      inputs = digestTold (x .digest);
     }
 
 -- update: PCR2 measured from zero, PCR3 extended, the new secret, and the root's two measurements from the new PCR3
@@ -49,13 +58,20 @@ updateValues x image =
       journey = words48 journey;
       node = measurementsRow journey (extended (bytes48 (cumulativeIn image (rootIn nodeCount (treeIn image)))) journey);
       secret = words48 (x .secret);
+      inputs = bootTold x;
     }
 
 -- cold boot: PCR2 and PCR3 measured from zero, the secret, and the root's node
 abbrev pub coldValues : BootInputs → Values
 coldValues x =
     let journey = extendedByBoot (zeros 48) x in
-    record { register = words48 journey; journey = words48 journey; node = nodeRow (rootNode journey); secret = words48 (x .secret) }
+    record {
+      register = words48 journey;
+      journey = words48 journey;
+      node = nodeRow (rootNode journey);
+      secret = words48 (x .secret);
+      inputs = bootTold x;
+    }
 
 -- extension: its register extended by its digest
 abbrev pub extensionValues : RegisterExtension → List ℕ → Values
@@ -65,6 +81,7 @@ extensionValues x image =
       journey = zeros registerWords;
       node = zeros nodeWords;
       secret = zeros registerWords;
+      inputs = digestTold (x .digest);
     }
 
 -- ---- one row for each task
@@ -72,7 +89,7 @@ extensionValues x image =
 pub record Facts : Type 0 where
   -- the kind of work, at the nodes where it is opened
   pub kind : Tree → Kind
-  -- the values that it will store, at an image
+  -- the values that it will store, at an image, and its inputs
   pub values : List ℕ → Values
   -- what it makes of the device secret
   pub secret : List ℕ → List ℕ

@@ -22,6 +22,7 @@ use opening::Status;
 use opening::works::refused;
 use slices::little_endian::read32;
 use slices::strings::bytes_of;
+use slices::strings::joined;
 use table::Kind;
 
 // Where the request's fields are.
@@ -36,18 +37,20 @@ fn register_in(bytes: &[u8]) -> usize
     read32(bytes, REGISTER_FROM) as usize
 }
 
-// The words that an extension will store: its register's.
+// The words that an extension will store, its register's, and the digest that its entry tells.
 fn extension_values(image: &[u32], bytes: &[u8], register: usize) -> Values
     requires { ⌜ (length (now bytes) ≡ extendLength) × (extendable register ≡ true) × (register ≡ extensionIn (requestOf extendCode (now bytes) 0 [] false) .register) ⌝ }
     ensures { λ r. ⌜ r ≡ extensionValues (extensionIn (requestOf extendCode (now (bytes .entry)) 0 [] false)) (now (image .entry)) ⌝ }
 {
     let digest = bytes_of(bytes, DIGEST_FROM);
     let words = extended_register(image, register, digest);
+    let inputs = joined(digest, [0u8; 48]);
     Values {
         register: words,
         journey: [0u32; REGISTER_WORDS],
         node: [0u32; NODE_WORDS],
         secret: [0u32; REGISTER_WORDS],
+        inputs,
     }
 }
 

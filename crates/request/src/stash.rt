@@ -33,6 +33,7 @@ use packing::four;
 use sha384::digest::extend;
 use slices::little_endian::read32;
 use slices::strings::bytes_of;
+use slices::strings::joined;
 use table::Kind;
 use table::StashAt;
 use tree::formed::well_formed;
@@ -46,7 +47,8 @@ const DIGEST_FROM: usize = 8;
 
 const SVN_FROM: usize = 56;
 
-// The words that a stash will store: PCR31, and the new node below `holder`.
+// The words that a stash will store, PCR31 and the new node below `holder`, and the digest that its entry
+// tells.
 fn stash_values(image: &[u32], bytes: &[u8], caller: u32, holder: usize) -> Values
     requires { ⌜ (length (now bytes) ≡ stashLength) × (holder ≤ nodeCount) × (holder ≡ nodeWith nodeCount (treeIn (now image)) defaultWords) ⌝ }
     ensures { λ r. ⌜ r ≡ stashValues (measurementIn (requestOf stashCode (now (bytes .entry)) caller [] false)) (now (image .entry)) ⌝ }
@@ -57,11 +59,13 @@ fn stash_values(image: &[u32], bytes: &[u8], caller: u32, holder: usize) -> Valu
     let kind = read32(bytes, TYPE_FROM);
     let svn = read32(bytes, SVN_FROM);
     let node = node_row(holder as u16, 0, digest, cumulative, kind, caller, svn);
+    let inputs = joined(digest, [0u8; 48]);
     Values {
         register,
         journey: [0u32; REGISTER_WORDS],
         node,
         secret: [0u32; REGISTER_WORDS],
+        inputs,
     }
 }
 

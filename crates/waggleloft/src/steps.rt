@@ -1,8 +1,9 @@
-// The entries over a work for C: stores left, one store, the answer, and the sizes of the buffers.
+// The entries over a work for C: stores left, one store, the answer, the journal entry, and the sizes of the
+// buffers.
 ghost use mathlib.Core.Path.{_≡_};
 ghost use Rattle.layout.specs.Sizes.{imageWords};
 ghost use Rattle.flat.specs.Flat.{workSize, workOf};
-ghost use Rattle.flat.specs.Forms.{leftIn, storeNumberIn, storeWords, storeHand, storeImageIn, answerNumberIn, answerWritten, answerBufferIn};
+ghost use Rattle.flat.specs.Forms.{leftIn, storeNumberIn, storeWords, storeHand, storeImageIn, answerNumberIn, answerWritten, answerBufferIn, entryNumberIn, entryWritten, entryBufferIn};
 use flat::WORK_WORDS;
 use layout::IMAGE_WORDS;
 
@@ -44,4 +45,13 @@ pub extern "C" fn waggleloft_answer(work: &[u32], buffer: &mut [u8], written: &m
     ensures { λ r. ⌜ now (buffer .exit) ≡ answerBufferIn (now (work .entry)) (now (buffer .entry)) ⌝ }
 {
     held::answer(work, buffer, written)
+}
+
+#[no_mangle]
+pub extern "C" fn waggleloft_entry(work: &[u32], buffer: &mut [u8], written: &mut usize) -> u32
+    ensures { λ r. ⌜ r ≡ entryNumberIn (now (work .entry)) (now (buffer .entry)) ⌝ }
+    ensures { λ r. ⌜ now (written .exit) ≡ entryWritten (now (work .entry)) (now (buffer .entry)) (now (written .entry)) ⌝ }
+    ensures { λ r. ⌜ now (buffer .exit) ≡ entryBufferIn (now (work .entry)) (now (buffer .entry)) ⌝ }
+{
+    held::entry(work, buffer, written)
 }

@@ -43,6 +43,7 @@ stepped w k =
       secret = w .secret;
       answer = w .answer;
       «answer_len» = w .«answer_len»;
+      inputs = w .inputs;
     }
 
 -- what a store answers, from its parts

@@ -4,7 +4,7 @@ use mathlib.Core.Path.{_≡_, refl}
 use mathlib.Core.List.{List}
 use Prim.Native.Nat.{ℕ}
 use Rattle.work.specs.Entries.{putOf, runsOf}
-use Rattle.work.specs.Entries.{wellShaped, leftOf, storeNumber, storeImage}
+use Rattle.work.specs.Entries.{wellShaped, leftOf, finished, storeNumber, storeImage}
 use Rattle.work.specs.Parts.{storing, standing}
 use Rattle.work.specs.declared.Work.{Work}
 
@@ -17,6 +17,10 @@ storingOf w = storing (w .kind) (w .position) (w .«answer_len») (w .register) 
 pub shaped-standing : (w : Work) → wellShaped (standingOf w) ≡ wellShaped w
 unfolding wellShaped
 shaped-standing w = refl
+
+pub finished-standing : (w : Work) → finished (standingOf w) ≡ finished w
+unfolding finished wellShaped
+finished-standing w = refl
 
 pub left-standing : (w : Work) → leftOf (standingOf w) ≡ leftOf w
 unfolding leftOf wellShaped

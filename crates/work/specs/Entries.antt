@@ -32,13 +32,23 @@ unfoldable pub leftOf : Work → ℕ
 leftOf w = cond (wellShaped w) (numberOf (w .kind) - w .position) 0
 
 -- a work of its parts
-abbrev pub workFrom : Kind → ℕ → (register journey node secret answer : List ℕ) → ℕ → Work
-workFrom k position register journey node secret answer n =
-    record { kind = k; position = position; register = register; journey = journey; node = node; secret = secret; answer = answer; «answer_len» = n }
+abbrev pub workFrom : Kind → ℕ → (register journey node secret answer : List ℕ) → ℕ → (inputs : List ℕ) → Work
+workFrom k position register journey node secret answer n inputs =
+    record {
+      kind = k;
+      position = position;
+      register = register;
+      journey = journey;
+      node = node;
+      secret = secret;
+      answer = answer;
+      «answer_len» = n;
+      inputs = inputs;
+    }
 
 -- "hands it back": the same work with its position one store on
 abbrev pub moved : Work → Work
-moved w = workFrom (w .kind) (w .position + 1) (w .register) (w .journey) (w .node) (w .secret) (w .answer) (w .«answer_len»)
+moved w = workFrom (w .kind) (w .position + 1) (w .register) (w .journey) (w .node) (w .secret) (w .answer) (w .«answer_len») (w .inputs)
 
 -- "store: 1; 9 no store left"; success is 0
 unfoldable pub storeNumber : Work → List ℕ → ℕ

@@ -1,10 +1,10 @@
--- A work from its parts, where they stand apart: what a store looks at, which is all but the answer's bytes. Assumes nothing.
+-- A work from its parts, where they stand apart: what a store looks at, and what an entry's taking looks at. Assumes nothing.
 use Prim.Native.Nat.{ℕ}
 use mathlib.Core.List.{List, []}
 use Rattle.table.specs.declared.Kind.{Kind}
 use Rattle.work.specs.declared.Work.{Work}
 
--- kind, position, answer's length and the four fields of prepared words; of the answer no byte
+-- kind, position, answer's length and the four fields of prepared words; of the answer and of the inputs no byte
 abbrev pub storing : Kind → ℕ → ℕ → List ℕ → List ℕ → List ℕ → List ℕ → Work
 storing kind position len register journey node secret =
     record {
@@ -16,8 +16,24 @@ storing kind position len register journey node secret =
       secret = secret;
       answer = [];
       «answer_len» = len;
+      inputs = [];
     }
 
 -- the same with no prepared words: the stores left do not depend on them
 abbrev pub standing : Kind → ℕ → ℕ → Work
 standing kind position len = storing kind position len [] [] [] []
+
+-- what an entry's taking looks at: kind, position, answer's length, the new node and the inputs
+abbrev pub recording : Kind → ℕ → ℕ → List ℕ → List ℕ → Work
+recording kind position len node inputs =
+    record {
+      kind = kind;
+      position = position;
+      register = [];
+      journey = [];
+      node = node;
+      secret = [];
+      answer = [];
+      «answer_len» = len;
+      inputs = inputs;
+    }

@@ -1,7 +1,7 @@
 // Stores left and one store of a work whose parts are lent: what a store looks at is read where it
 // stands, and nothing is copied. `Work`'s methods and a work that is held in another form use these.
 ghost use mathlib.Core.Path.{_≡_};
-ghost use Rattle.work.specs.Entries.{wellShaped, leftOf, storeNumber, storeImage};
+ghost use Rattle.work.specs.Entries.{wellShaped, leftOf, finished, storeNumber, storeImage};
 ghost use Rattle.work.specs.Parts.{storing, standing};
 use layout::ANSWER_MAX;
 use layout::IMAGE_WORDS;
@@ -13,10 +13,17 @@ use table::number;
 use table::put_at;
 
 // Whether a work's indices, answer's length and position are within their bounds.
-pub(crate) fn shaped(kind: Kind, position: usize, answer_len: usize) -> bool
+fn shaped(kind: Kind, position: usize, answer_len: usize) -> bool
     ensures { λ r. ⌜ r ≡ wellShaped (standing kind position «answer_len») ⌝ }
 {
     index_ok(kind) && (answer_len <= ANSWER_MAX && position <= number(kind))
+}
+
+// Whether the last store is made.
+pub(crate) fn finished(kind: Kind, position: usize, answer_len: usize) -> bool
+    ensures { λ r. ⌜ r ≡ finished (standing kind position «answer_len») ⌝ }
+{
+    shaped(kind, position, answer_len) && position == number(kind)
 }
 
 // Stores left; 0 of a work that is not well shaped.

@@ -1,20 +1,25 @@
-// A piece of work: what it will store, how far it is, and its prepared answer.
+// A piece of work: what it will store, how far it is, its prepared answer, and the inputs that its
+// journal entry tells.
+pub mod entry;
 pub mod lent;
 
 ghost use mathlib.Core.Path.{_≡_};
 ghost use mathlib.Core.Bool.{cond};
 ghost use lib.Dec.{eqb};
 ghost use Rattle.work.specs.Entries.{finished, leftOf, storeNumber, storeResult, storeImage, answerResult, answerBuffer};
+ghost use Rattle.work.specs.Recorded.{entryResult, entryBuffer};
+use journal_bytes::write::Taken;
 use layout::ANSWER_MAX;
+use layout::INPUT_BYTES;
 use layout::NODE_WORDS;
 use layout::REGISTER_WORDS;
 use layout::refusals::SHORT_BUFFER;
 use layout::refusals::STORES_LEFT;
 use table::Kind;
-use table::number;
 
 // `register` is PCR31 of a stash and PCR2 of a boot, `journey` PCR3 of a boot, `node` a stash's new
-// node or a boot's root. `position` counts the stores made.
+// node or a boot's root. `position` counts the stores made. `inputs` are a boot's two digests, or the
+// digest of a stash or an extension and zeros.
 pub struct Work {
     pub kind: Kind,
     pub position: usize,
@@ -24,6 +29,7 @@ pub struct Work {
     pub secret: [u32; REGISTER_WORDS],
     pub answer: [u8; ANSWER_MAX],
     pub answer_len: usize,
+    pub inputs: [u8; INPUT_BYTES],
 }
 
 // What a store answers: its number, and the work one store on, or as it was where it is refused.
@@ -99,7 +105,7 @@ impl Work {
         ensures { λ r. ⌜ r ≡ finished self ⌝ }
     {
         let kind = self.kind;
-        lent::shaped(kind, self.position, self.answer_len) && self.position == number(kind)
+        lent::finished(kind, self.position, self.answer_len)
     }
 
     // The answer into the front of the buffer. Refused, with nothing written: 7, stores left or not
@@ -127,5 +133,18 @@ impl Work {
             number: 0,
             written: n,
         }
+    }
+
+    // The journal entry into the front of the buffer. Refused, with nothing written: 7, stores left or not
+    // well shaped; then 23, a buffer shorter than the entry.
+    pub fn entry(self, buffer: &mut [u8]) -> Taken
+        ensures { λ r. ⌜ r ≡ entryResult self (now (buffer .entry)) ⌝ }
+        ensures { λ r. ⌜ now (buffer .exit) ≡ entryBuffer self (now (buffer .entry)) ⌝ }
+    {
+        let kind = self.kind;
+        let node = self.node;
+        let inputs = self.inputs;
+        let length = self.answer_len;
+        entry::take(kind, self.position, length, &node, inputs, buffer)
     }
 }

@@ -5,7 +5,7 @@ use super::{root, stashed, Book, Event, Look, Node, Opened, Reading, State};
 use crate::boots::{Boot, Boots, Inputs};
 use crate::engine::Paper;
 use crate::layout::{extended, NODES, STASHED, ZERO};
-use crate::requests::{Extension, Request};
+use crate::requests::{Extension, Request, Stash};
 
 /// How the books are kept.
 pub trait Keeper {
@@ -28,6 +28,11 @@ pub trait Keeper {
 
     fn cut(&self, book: &mut Book) {
         book.cut();
+    }
+
+    /// The entry of the work in hand, or why there is none.
+    fn entry(&self, book: &Book) -> Result<Vec<u8>, u32> {
+        book.entry()
     }
 
     /// The book of a running digest that is begun; there may be one before it.
@@ -200,6 +205,72 @@ pub const BOOKS: &[WrongBook] = &[
             },
             ..Reading::PAPER
         }),
+    ),
+    book(
+        "JournalSvnIsCaller",
+        "a stash's entry in the journal has svn and caller exchanged",
+        &Reads(Reading {
+            entry: |event| match event {
+                Event::Stash(stash) => Event::Stash(Stash {
+                    svn: stash.caller,
+                    caller: stash.svn,
+                    ..stash.clone()
+                })
+                .entry(),
+                _ => event.entry(),
+            },
+            ..Reading::PAPER
+        }),
+    ),
+    book(
+        "JournalManifestFirst",
+        "a boot's entry in the journal has the manifest digest first",
+        &Reads(Reading {
+            entry: |event| match event {
+                Event::Cold(boot) => Event::Cold(exchanged(boot)).entry(),
+                Event::Update(boot) => Event::Update(exchanged(boot)).entry(),
+                _ => event.entry(),
+            },
+            ..Reading::PAPER
+        }),
+    ),
+    book(
+        "JournalWithoutUpdates",
+        "an update has no entry in the journal",
+        &Reads(Reading {
+            entry: |event| match event {
+                Event::Update(_) => vec![],
+                _ => event.entry(),
+            },
+            ..Reading::PAPER
+        }),
+    ),
+    book(
+        "JournalWithoutBootDisabling",
+        "a boot's disabling has no entry in the journal",
+        &Reads(Reading {
+            entry: |event| match event {
+                Event::BootDisabling => vec![],
+                _ => event.entry(),
+            },
+            ..Reading::PAPER
+        }),
+    ),
+    book(
+        "JournalOfDeclined",
+        "what stores nothing has an entry of one byte in the journal",
+        &Reads(Reading {
+            entry: |event| match event {
+                Event::Nothing => Event::DisableCommand.entry(),
+                _ => event.entry(),
+            },
+            ..Reading::PAPER
+        }),
+    ),
+    book(
+        "JournalAtOpening",
+        "a work has its entry before its stores",
+        &JournalAtOpening,
     ),
     book(
         "FullEarly",
@@ -395,6 +466,26 @@ impl Keeper for ExtensionsUntilUpdate {
             book.state = State::replay(&book.history, book.reading);
         }
         stored
+    }
+}
+
+/// A boot with its digests exchanged.
+fn exchanged(boot: &Boot) -> Boot {
+    Boot {
+        runtime: boot.manifest,
+        manifest: boot.runtime,
+        ..boot.clone()
+    }
+}
+
+struct JournalAtOpening;
+
+impl Keeper for JournalAtOpening {
+    fn entry(&self, book: &Book) -> Result<Vec<u8>, u32> {
+        match &book.in_hand {
+            Some(hand) => Ok(hand.event.entry()),
+            None => book.entry(),
+        }
     }
 }
 

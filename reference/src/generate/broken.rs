@@ -11,7 +11,7 @@ impl Maker {
         match self.random.below(9) {
             0 => {
                 let any = self.random.below(256) as u8;
-                let near = self.random.pick(b"icursalxdwBFEZ\0\n");
+                let near = self.random.pick(b"icursaljxdwBFEZ\0\n");
                 let mut letter = self.random.pick(&[any, near]);
                 while LETTERS.contains(&letter) {
                     letter = letter.wrapping_add(1);
@@ -63,7 +63,7 @@ impl Maker {
 
     fn any_op(&mut self) -> Op {
         let mark = self.ops.len();
-        match self.random.below(10) {
+        match self.random.below(11) {
             0 => {
                 let words = self.random.words(3);
                 self.push(Op::Image(words));
@@ -73,6 +73,7 @@ impl Maker {
             3 => self.push_stash(),
             4 => self.push_stores(COLD_STORES),
             5 => self.push(Op::Answer(12)),
+            9 => self.push_entry(),
             6 => self.push(Op::Set {
                 field: 0,
                 value: 1 << 40,

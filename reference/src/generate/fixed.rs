@@ -1,7 +1,9 @@
 //! Inputs that have no seed: they go through every case of the running digest,
-//! of a boot's inputs, of an svn, of the number of nodes and of an extension.
+//! of a boot's inputs, of an svn, of the number of nodes, of an extension and of a
+//! journal entry.
 
 use super::fixed_boots::boot_inputs;
+use super::fixed_entries::entries;
 use super::fixed_extensions::extensions;
 use super::fixed_nodes::nodes;
 use super::fixed_svns::svns;
@@ -33,6 +35,7 @@ pub fn fixed_inputs() -> Vec<Vec<u8>> {
     inputs.push(extension_input());
     inputs.extend(svn_inputs());
     inputs.extend(node_inputs());
+    inputs.extend(entry_inputs());
     inputs
 }
 
@@ -49,6 +52,11 @@ pub fn svn_inputs() -> Vec<Vec<u8>> {
 /// Every case of the number of nodes.
 pub fn node_inputs() -> Vec<Vec<u8>> {
     in_pieces(nodes().into_iter())
+}
+
+/// Every case of a journal entry, in several inputs.
+pub fn entry_inputs() -> Vec<Vec<u8>> {
+    in_pieces_of(INPUT_BYTES / 8, entries().into_iter())
 }
 
 fn message(length: usize) -> Vec<u8> {
@@ -82,11 +90,16 @@ fn pairs() -> impl Iterator<Item = (usize, usize)> {
 
 /// Lists of operations one after the other, in as many inputs as they take.
 fn in_pieces(lists: impl Iterator<Item = Vec<Op>>) -> Vec<Vec<u8>> {
+    in_pieces_of(INPUT_BYTES, lists)
+}
+
+/// As `in_pieces`; no input has more bytes than `most`.
+fn in_pieces_of(most: usize, lists: impl Iterator<Item = Vec<Op>>) -> Vec<Vec<u8>> {
     let mut inputs = vec![Vec::new()];
     for list in lists {
         let bytes = encode(&list);
         let last = inputs.len() - 1;
-        if inputs[last].len() + bytes.len() > INPUT_BYTES {
+        if inputs[last].len() + bytes.len() > most {
             inputs.push(bytes);
         } else {
             inputs[last].extend(bytes);

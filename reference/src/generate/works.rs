@@ -112,9 +112,11 @@ impl Maker {
             self.push(Op::Left);
             self.push(Op::Store(1));
             self.push(Op::Answer(ANSWER_MAX as u16));
+            self.push_entry();
             self.set(field, fine);
         }
         self.push(Op::Answer(ANSWER_MAX as u16));
+        self.push_entry();
         if self.random.once_in(2) {
             self.set(0, 0);
             self.finish();
@@ -230,6 +232,7 @@ impl Maker {
         }
         if self.random.once_in(2) {
             self.push_answer();
+            self.push_entry();
         }
         if self.random.once_in(4) {
             self.push(Op::Dump);

@@ -1,4 +1,4 @@
--- The number picks the act on both sides; only an answer writes the buffer (`made`).
+-- The number picks the act on both sides; only an answer or an entry writes the buffer (`made`).
 use borrow.Author.Tests.{ne-eqb}
 use Rattle.machine.specs.Call.{actOf}
 use Rattle.machine.proofs.Steps.{made}
@@ -20,6 +20,9 @@ cold-boot-call-requires c κs = search needs
 
 answer-call-requires : tie.Need-answer-call-requires
 answer-call-requires c κs = search needs
+
+entry-call-requires : tie.Need-entry-call-requires
+entry-call-requires c κs = search needs
 
 cut-call-requires : tie.Need-cut-call-requires
 cut-call-requires c κs = search needs
@@ -73,17 +76,27 @@ returns-5 c =
     let image = c .before .before .before .before .before .before .before .before .before .before .before .before .args .image .now in
     rw (c .before .before .before .before .match .keys5) (c .before .before .answer-call .ensures .0 image, c .before .before .answer-call .ensures .1 image)
 
+same-length-6 : tie.Need-same-length-6
+same-length-6 c = search needs
+
 returns-6 : tie.Need-returns-6
 unfolding actOf
 returns-6 c =
+    let image = c .before .before .before .before .before .before .before .before .before .before .before .before .args .image .now in
+    rw (c .before .before .before .before .match .keys6) (c .before .before .entry-call .ensures .0 image, c .before .before .entry-call .ensures .1 image)
+
+returns-7 : tie.Need-returns-7
+unfolding actOf
+returns-7 c =
     let a = c .before .before .before .before .before .before .before .before .before .args in
     let r = c .before .match .rest in
     rw (
-      ne-eqb (a .op) 0 (r .0 .0 .0 .0 .1),
-      ne-eqb (a .op) 1 (r .0 .0 .0 .1),
-      ne-eqb (a .op) 2 (r .0 .0 .1),
-      ne-eqb (a .op) 3 (r .0 .1),
-      ne-eqb (a .op) 4 (r .1),
+      ne-eqb (a .op) 0 (r .0 .0 .0 .0 .0 .1),
+      ne-eqb (a .op) 1 (r .0 .0 .0 .0 .1),
+      ne-eqb (a .op) 2 (r .0 .0 .0 .1),
+      ne-eqb (a .op) 3 (r .0 .0 .1),
+      ne-eqb (a .op) 4 (r .0 .1),
+      ne-eqb (a .op) 5 (r .1),
     ) (made (c .cut-call .result) _ _ (c .cut-call .ensures (a .image .now)) (a .buffer .now))
 
 pub make-spec : {M : Type 1} → statement M
@@ -95,6 +108,7 @@ make-spec =
     store-call-requires
     cold-boot-call-requires
     answer-call-requires
+    entry-call-requires
     cut-call-requires
     same-length
     returns
@@ -106,4 +120,6 @@ make-spec =
     returns-4
     same-length-5
     returns-5
-    returns-6)
+    same-length-6
+    returns-6
+    returns-7)

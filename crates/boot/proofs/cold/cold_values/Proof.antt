@@ -28,15 +28,19 @@ slice-aggregate-pack-2 c = search needs
 pack-requires-2 : tie.Need-pack-requires-2
 pack-requires-2 c κs = tt
 
+digests-of-requires : tie.Need-digests-of-requires
+digests-of-requires c κs = tt
+
 returns : tie.Need-returns
 unfolding zeros
 returns c =
     rw (
-      c .pack2 .ensures,
-      c .before .before .before .node-row .ensures,
-      c .before .before .before .before .pack .ensures,
-      c .before .before .before .before .before .before .extend .ensures,
-      c .before .before .before .before .before .before .before .extend-by-boot .ensures,
+      c .digests-of .ensures,
+      c .before .pack2 .ensures,
+      c .before .before .before .before .node-row .ensures,
+      c .before .before .before .before .before .pack .ensures,
+      c .before .before .before .before .before .before .before .extend .ensures,
+      c .before .before .before .before .before .before .before .before .extend-by-boot .ensures,
     )
 
 pub cold-values-spec : {M : Type 1} → statement M
@@ -51,4 +55,5 @@ cold-values-spec =
     node-row-requires
     slice-aggregate-pack-2
     pack-requires-2
+    digests-of-requires
     returns)

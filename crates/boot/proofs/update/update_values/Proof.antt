@@ -35,18 +35,22 @@ slice-aggregate-pack-3 c = search needs
 pack-requires-3 : tie.Need-pack-requires-3
 pack-requires-3 c κs = tt
 
+digests-of-requires : tie.Need-digests-of-requires
+digests-of-requires c κs = tt
+
 returns : tie.Need-returns
 unfolding registerIn zeros
 returns c =
     rw (
-      c .pack3 .ensures,
-      c .before .before .before .root-row .ensures,
-      c .before .before .before .before .pack2 .ensures,
-      c .before .before .before .before .before .before .pack .ensures,
-      c .before .before .before .before .before .before .before .before .extend-by-boot2 .ensures,
-      c .before .before .before .before .before .before .before .before .before .bytes-in .ensures,
-      c .before .before .before .before .before .before .before .before .before .before .extend-by-boot .ensures,
-      ← c .before .before .before .before .before .before .before .before .before .before .before .before .pre .1,
+      c .digests-of .ensures,
+      c .before .pack3 .ensures,
+      c .before .before .before .before .root-row .ensures,
+      c .before .before .before .before .before .pack2 .ensures,
+      c .before .before .before .before .before .before .before .pack .ensures,
+      c .before .before .before .before .before .before .before .before .before .extend-by-boot2 .ensures,
+      c .before .before .before .before .before .before .before .before .before .before .bytes-in .ensures,
+      c .before .before .before .before .before .before .before .before .before .before .before .extend-by-boot .ensures,
+      ← c .before .before .before .before .before .before .before .before .before .before .before .before .before .pre .1,
     )
 
 pub update-values-spec : {M : Type 1} → statement M
@@ -63,4 +67,5 @@ update-values-spec =
     root-row-requires
     slice-aggregate-pack-3
     pack-requires-3
+    digests-of-requires
     returns)

@@ -12,11 +12,11 @@ use Rattle.flat.proofs.words.write_row.Statement.{statement}
 use Rattle.flat.proofs.words.write_row.Tie as tie
 
 abbrev Inv-loop : tie.InvT-loop
-Inv-loop head register journey node secret answer out₀ k₀ out k =
-    (k ≤ workSize) × (length (out) ≡ workSize) × (take k (out) ≡ tab k (λ i. getD (rowOf head register journey node secret answer) i 0))
+Inv-loop head register journey node secret answer inputs out₀ k₀ out k =
+    (k ≤ workSize) × (length (out) ≡ workSize) × (take k (out) ≡ tab k (λ i. getD (rowOf head register journey node secret answer inputs) i 0))
 
 abbrev μ-loop : tie.MeasureT-loop
-μ-loop head register journey node secret answer out₀ k₀ out k = workSize - k
+μ-loop head register journey node secret answer inputs out₀ k₀ out k = workSize - k
 
 loop-holds : tie.Need-loop-holds Inv-loop μ-loop
 loop-holds c = (search needs, search needs, tab-none _)
@@ -46,8 +46,13 @@ same-length c = search needs
 returns : tie.Need-returns Inv-loop μ-loop
 returns c =
     let l = c .before .loop in
-    let e : l .k ≡ workSize = omega arith in
-    row-filled _ _ _ _ _ _ (c .before .before .before .before .before .before .before .before .before .pre .1) (l .out) (l .inv .1) (rw e at (l .inv .2))
+    let c3 = c .before .before .before in
+    let c4 = c3 .before in
+    let g = c4 .before .before .before .before .before .before in
+    let e : l .k ≡ workSize = omega arith in (
+      row-filled _ _ _ _ _ _ _ (g .pre .1) (l .out) (l .inv .1) (rw e at (l .inv .2)),
+      ((λ i. omega (arith, c4 .shared-slice-known6 .given i)), (λ i. omega (arith, c3 .shared-slice-known7 .given i))),
+    )
 
 pub write-row-spec : {M : Type 1} → statement M
 write-row-spec =

@@ -1,69 +1,18 @@
--- `answer_in` meets its contract. The invariant: the first k bytes are those of the words. Assumes nothing.
+-- `answer_in` meets its contract: the bytes from their word on. Assumes nothing.
+use Rattle.flat.specs.Flat.{workOf}
 use borrow.Author.Needs.{needs}
-use native.Mathlib.Omega.{arith}
-use Prim.Native.Nat.{ℕ, _+_, _-_, _/_, _%_, _≤_}
-use mathlib.Core.Path.{_≡_, ap, _∙_}
-use lib.ListN.{length, take, getD, length-set}
-use Rattle.layout.specs.Sizes.{answerMax}
-use Rattle.layout.specs.Words.{tab, byteOf}
-use Rattle.layout.proofs.Tab.{tab-none, tab-more, tab-full}
-use Rattle.flat.specs.Flat.{answerWord, answerBytes}
 use Rattle.held.proofs.reading.answer_in.Statement.{statement}
 use Rattle.held.proofs.reading.answer_in.Tie as tie
 
-abbrev Inv-loop : tie.InvT-loop
-Inv-loop words out₀ k₀ out k = (k ≤ answerMax) × (length out ≡ answerMax) × (take k out ≡ tab k (λ j. byteOf (getD words (answerWord + j / 4) 0) (j % 4)))
+slice-aggregate-unpack : tie.Need-slice-aggregate-unpack
+slice-aggregate-unpack c = search needs
 
-abbrev μ-loop : tie.MeasureT-loop
-μ-loop words out₀ k₀ out k = answerMax - k
+unpack-requires : tie.Need-unpack-requires
+unpack-requires c κs = search needs
 
-loop-holds : tie.Need-loop-holds Inv-loop μ-loop
-loop-holds c = (search needs, search needs, tab-none _)
-
-add-word : tie.Need-add-word Inv-loop μ-loop
-add-word c = search needs
-
-word-requires : tie.Need-word-requires Inv-loop μ-loop
-word-requires c κs = tt
-
-byte-of-requires : tie.Need-byte-of-requires Inv-loop μ-loop
-byte-of-requires c κs = tt
-
-array-write-out : tie.Need-array-write-out Inv-loop μ-loop
-array-write-out c = search needs
-
-add-k : tie.Need-add-k Inv-loop μ-loop
-add-k c = search needs
-
-loop-less : tie.Need-loop-less Inv-loop μ-loop
-loop-less c = search needs
-
-loop-again : tie.Need-loop-again Inv-loop μ-loop
-loop-again c = let l = c .before .before .before .loop in (
-  omega arith,
-  simp length-set (l .inv .1),
-  tab-more _ (l .out) (l .k) (c .byte-of .result) (omega arith)
-      (c .byte-of .ensures ∙ ap (λ (x : ℕ). byteOf x (l .k % 4)) (c .before .word .ensures)) (l .inv .2),
-)
-
-returns : tie.Need-returns Inv-loop μ-loop
-unfolding answerBytes
-returns c = let l = c .before .loop in
-    let e : l .k ≡ answerMax = omega arith in
-    tab-full _ (l .out) (answerMax) (l .inv .1) (rw e at (l .inv .2))
+returns : tie.Need-returns
+unfolding workOf
+returns c = c .before .unpack .ensures
 
 pub answer-in-spec : {M : Type 1} → statement M
-answer-in-spec =
-    tie.close
-    (tie.spec
-    Inv-loop
-    μ-loop
-    loop-holds
-    add-word
-    word-requires
-    byte-of-requires
-    array-write-out
-    add-k
-    loop-less
-    loop-again
-    returns)
+answer-in-spec = tie.close (tie.spec slice-aggregate-unpack unpack-requires returns)

@@ -27,18 +27,22 @@ cast-node-row c = search needs
 node-row-requires : tie.Need-node-row-requires
 node-row-requires c κs = tt
 
+joined-requires : tie.Need-joined-requires
+joined-requires c κs = tt
+
 returns : tie.Need-returns
 unfolding zeros
 returns c =
-    let g = c .before .before .before .before .before .before .before .before in
+    let g = c .before .before .before .before .before .before .before .before .before in
     let digest = part-within 48 (g .args .bytes .now) 8 (omega (arith, g .pre .0)) in
     rw (
-      c .node-row .ensures,
-      c .before .before .before .before .extended-register .ensures,
-      c .before .before .before .extend .ensures,
-      c .before .before .before .before .before .bytes-of .ensures,
-      c .before .before .read32 .ensures,
-      c .before .read322 .ensures,
+      c .joined .ensures,
+      c .before .node-row .ensures,
+      c .before .before .before .before .before .extended-register .ensures,
+      c .before .before .before .before .extend .ensures,
+      c .before .before .before .before .before .before .bytes-of .ensures,
+      c .before .before .before .read32 .ensures,
+      c .before .before .read322 .ensures,
       ← g .pre .2,
       digest,
     )
@@ -54,4 +58,5 @@ stash-values-spec =
     read32-requires-2
     cast-node-row
     node-row-requires
+    joined-requires
     returns)

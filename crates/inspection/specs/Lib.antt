@@ -1,0 +1,3 @@
+-- The program `replay` over pieces of its input.
+pub mod Stages
+pub mod Pieces

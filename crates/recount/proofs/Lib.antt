@@ -1,0 +1,5 @@
+-- Laws of counting on an image.
+pub mod Sealing
+pub mod MadeOn
+pub mod Shown
+pub mod Counting

@@ -1,0 +1,2 @@
+-- An entry's work made again on an image.
+pub mod OnImage

@@ -1,0 +1,2 @@
+-- Laws of pieces fed one after another.
+pub mod Fed

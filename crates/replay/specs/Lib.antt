@@ -1,0 +1,2 @@
+-- What the program's functions say of the pieces that they feed.
+pub mod Fed

@@ -1,0 +1,30 @@
+-- Small journals and figures, worked out by hand (document 02, §3). Assumes nothing.
+use mathlib.Core.Path.{_≡_}
+use Prim.Native.Nat.{ℕ}
+use mathlib.Core.List.{List, [], _∷_, _++_}
+use Rattle.layout.specs.Words.{zeros}
+use Rattle.journal.specs.Entries.{disabling, journalBytes}
+use Rattle.journal.specs.Journal.{stopped, ended}
+use Rattle.replaying.specs.Replay.{fresh, replay}
+use Rattle.replaying.specs.Report.{comparedAt, imageBytes, journalMax, output}
+
+pub record Cards : Type 0 where
+  -- "a journal holding one disabling is the byte `03`"; before a cold boot it is refused
+  pub one-disabling : journalBytes (disabling ∷ []) ≡ 3 ∷ []
+  pub before-a-boot : replay (3 ∷ []) ≡ stopped 24 0
+  -- form first: a cut cold boot, a kind that is not listed, a number with a byte 0 behind the first
+  pub cut-boot : replay (1 ∷ zeros 95) ≡ stopped 22 0
+  pub unlisted : replay (6 ∷ []) ≡ stopped 20 0
+  pub long-form : replay (5 ∷ 0x80 ∷ 0 ∷ []) ≡ stopped 21 0
+  pub register-cut : replay (5 ∷ 3 ∷ zeros 47) ≡ stopped 22 0
+  pub register-whole : replay (5 ∷ 3 ∷ zeros 48) ≡ stopped 24 0
+  -- entry by entry: an offset is that of the entry's first byte
+  pub second-entry : replay ((1 ∷ zeros 96) ++ (4 ∷ 0x80 ∷ [])) ≡ stopped 22 97
+  pub second-boot : replay ((1 ∷ zeros 96) ++ (3 ∷ 2 ∷ zeros 96)) ≡ stopped 24 98
+  pub nothing : replay [] ≡ ended fresh
+  -- an image that is cut short: number 1, offset 0
+  pub cut-image : output [] ≡ 1 ∷ zeros 11
+  -- the saved image's bytes; PCR2's first word
+  pub image-bytes : imageBytes ≡ 6080
+  pub compared-from : comparedAt ≡ 40
+  pub journal-max : journalMax ≡ 4294967296

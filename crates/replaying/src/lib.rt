@@ -1,0 +1,1 @@
+// No code: what replaying a journal gives, and the theorems about the unit's journal.
