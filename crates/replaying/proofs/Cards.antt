@@ -1,7 +1,7 @@
 -- The cards, by computing. Assumes nothing.
 use mathlib.Core.Path.{refl}
 use Rattle.layout.specs.Words.{zeros}
-use Rattle.layout.specs.Below.{allBelow}
+use Rattle.layout.specs.Sizes.{extendable}
 use Rattle.journal.specs.Numbers.{readLater, readNumber}
 use Rattle.journal.specs.Fields.{readFields}
 use Rattle.journal.specs.Entries.{entryBytes, readEntry}
@@ -11,7 +11,7 @@ use Rattle.replaying.specs.Report.{output}
 use Rattle.replaying.specs.Cards.{Cards}
 
 pub cards : Cards
-unfolding zeros entryBytes readLater readNumber readFields readEntry walk walkFor count output
+unfolding zeros extendable entryBytes readLater readNumber readFields readEntry walk walkFor count output
 cards =
     record {
       one-disabling = refl;
@@ -23,6 +23,8 @@ cards =
       register-whole = refl;
       second-entry = refl;
       second-boot = refl;
+      register-3 = refl;
+      register-31 = refl;
       nothing = refl;
       cut-image = refl;
       image-bytes = refl;

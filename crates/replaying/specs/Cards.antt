@@ -21,6 +21,9 @@ pub record Cards : Type 0 where
   -- entry by entry: an offset is that of the entry's first byte
   pub second-entry : replay ((1 ∷ zeros 96) ++ (4 ∷ 0x80 ∷ [])) ≡ stopped 22 97
   pub second-boot : replay ((1 ∷ zeros 96) ++ (3 ∷ 2 ∷ zeros 96)) ≡ stopped 24 98
+  -- after a cold boot: a register outside 4 to 30
+  pub register-3 : replay ((1 ∷ zeros 96) ++ (5 ∷ 3 ∷ zeros 48)) ≡ stopped 24 97
+  pub register-31 : replay ((1 ∷ zeros 96) ++ (5 ∷ 31 ∷ zeros 48)) ≡ stopped 24 97
   pub nothing : replay [] ≡ ended fresh
   -- an image that is cut short: number 1, offset 0
   pub cut-image : output [] ≡ 1 ∷ zeros 11
