@@ -1,41 +1,19 @@
 //! The engine through the crate: a boot, requests, cuts and refusals.
 
+mod common;
+
+use common::{fresh, run, INPUTS};
 use waggleloft::{
     archive_sizes, checksum, code, sha384, BootInputs, Outcome, Refusal, Request, Work,
     ANSWER_LONGEST, EXTEND_FIRST, EXTEND_LAST, IMAGE_WORDS, NODES, NODES_AT, NODE_CURRENT,
     NODE_LOCALITY, NODE_SVN, NODE_TYPE, NODE_WORDS, WORK_WORDS,
 };
 
-/// Stores of each kind of work.
-const COLD: usize = 1521;
+/// Stores of each further kind of work.
 const STASH: usize = 54;
 const UPDATE: usize = 62;
 const DISABLING: usize = 15;
 const EXTENSION: usize = 14;
-
-const INPUTS: BootInputs<'static> = BootInputs {
-    runtime: &[0x11; 48],
-    manifest: &[0x33; 48],
-    secret: &[0x22; 48],
-};
-
-/// Makes at most `most` stores; hands back how many were made.
-fn run(work: &mut Work, image: &mut [u32], most: usize) -> usize {
-    let mut made = 0;
-    while made < most && work.store(image).is_ok() {
-        made += 1;
-    }
-    made
-}
-
-/// An image after a cold boot.
-fn fresh() -> Vec<u32> {
-    let mut image = vec![0xEEEE_EEEE; IMAGE_WORDS];
-    let mut work = Work::new();
-    assert_eq!(work.open_cold_boot(&image, &INPUTS), Ok(Outcome::Cold));
-    assert_eq!(run(&mut work, &mut image, usize::MAX), COLD);
-    image
-}
 
 /// The 48 bytes in the twelve words of an image from `at` on: a word's lowest byte first.
 fn bytes_at(image: &[u32], at: usize) -> Vec<u8> {

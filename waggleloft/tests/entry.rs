@@ -1,33 +1,12 @@
 //! Journal entries through the crate: each kind of work's, byte by byte, and what is refused.
 
+mod common;
+
+use common::{fresh, run, INPUTS};
 use waggleloft::{
     checksum, code, BootInputs, Outcome, Refusal, Request, Work, ENTRY_LONGEST, IMAGE_WORDS, NODES,
     WORK_WORDS,
 };
-
-const INPUTS: BootInputs<'static> = BootInputs {
-    runtime: &[0x11; 48],
-    manifest: &[0x33; 48],
-    secret: &[0x22; 48],
-};
-
-/// Makes all stores; hands back how many were made.
-fn run(work: &mut Work, image: &mut [u32]) -> usize {
-    let mut made = 0;
-    while work.store(image).is_ok() {
-        made += 1;
-    }
-    made
-}
-
-/// An image after a cold boot.
-fn fresh() -> Vec<u32> {
-    let mut image = vec![0xEEEE_EEEE; IMAGE_WORDS];
-    let mut work = Work::new();
-    assert_eq!(work.open_cold_boot(&image, &INPUTS), Ok(Outcome::Cold));
-    run(&mut work, &mut image);
-    image
-}
 
 fn open_from(
     work: &mut Work,
@@ -128,7 +107,7 @@ fn secret_is_not_told() {
             ..INPUTS
         };
         assert_eq!(work.open_cold_boot(&image, &inputs), Ok(Outcome::Cold));
-        run(&mut work, &mut image);
+        run(&mut work, &mut image, usize::MAX);
         let mut entry = [0; ENTRY_LONGEST];
         assert_eq!(work.entry(&mut entry), Ok(ENTRY_LONGEST));
         assert!(!entry.contains(&secret[0]), "{entry:02x?}");
@@ -174,7 +153,7 @@ fn caller_300() {
     let mut work = Work::new();
     let code = code::STASH_MEASUREMENT;
     open_from(&mut work, &image, 300, code, &stash(1, 2)).expect("accepted");
-    run(&mut work, &mut image);
+    run(&mut work, &mut image, usize::MAX);
     let mut entry = [0; ENTRY_LONGEST];
     let length = work.entry(&mut entry).expect("an entry");
     assert_eq!(entry[length - 3..length], [2, 0xAC, 2]);
@@ -219,7 +198,7 @@ fn nothing_to_store() {
     assert_entry(&work, &[]);
     for _ in 1..NODES {
         open_from(&mut work, &image, 1, code::STASH_MEASUREMENT, &stash(1, 1)).expect("accepted");
-        run(&mut work, &mut image);
+        run(&mut work, &mut image, usize::MAX);
     }
     open_from(&mut work, &image, 1, code::STASH_MEASUREMENT, &stash(1, 1)).expect("accepted");
     assert_entry(&work, &[]);
