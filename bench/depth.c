@@ -30,6 +30,7 @@ static void (*measured)(void);
 static uint32_t image[WAGGLELOFT_IMAGE_WORDS], work[WAGGLELOFT_WORK_WORDS], outcome;
 static uint8_t runtime[48], manifest[48], secret[48], request[196], handoff[2048], buffer[WAGGLELOFT_ANSWER_LONGEST], message[65535];
 static uint8_t state[WAGGLELOFT_SHA384_STATE_BYTES], whole[WAGGLELOFT_SHA384_BYTES];
+static uint8_t fresh[WAGGLELOFT_HANDLE_BYTES];
 static uint32_t code;
 static size_t request_len, written;
 
@@ -57,7 +58,7 @@ static size_t touched(void (*function)(void))
 
 static void cold_boot(void) { CALL(waggleloft_open_cold_boot)(image, WAGGLELOFT_IMAGE_WORDS, runtime, 48, manifest, 48, secret, 48, work, WAGGLELOFT_WORK_WORDS, &outcome); }
 static void update_boot(void) { CALL(waggleloft_open_update_boot)(image, WAGGLELOFT_IMAGE_WORDS, runtime, 48, manifest, 48, secret, 48, true, work, WAGGLELOFT_WORK_WORDS, &outcome); }
-static void open_request(void) { CALL(waggleloft_open_request)(image, WAGGLELOFT_IMAGE_WORDS, code, request, request_len, 1, handoff, 2048, true, work, WAGGLELOFT_WORK_WORDS); }
+static void open_request(void) { CALL(waggleloft_open_request)(image, WAGGLELOFT_IMAGE_WORDS, code, request, request_len, 1, handoff, 2048, true, fresh, sizeof fresh, work, WAGGLELOFT_WORK_WORDS); }
 static void store(void) { CALL(waggleloft_store)(work, WAGGLELOFT_WORK_WORDS, image, WAGGLELOFT_IMAGE_WORDS); }
 static void left(void) { CALL(waggleloft_left)(work, WAGGLELOFT_WORK_WORDS); }
 static void answer(void) { CALL(waggleloft_answer)(work, WAGGLELOFT_WORK_WORDS, buffer, sizeof buffer, &written); }
@@ -103,6 +104,33 @@ static void show_request(const char *name, uint32_t its_code, size_t len)
     show(name, DEPTH(waggleloft_open_request, open_request));
 }
 
+/* The opening of a command to the tree about the node with that handle, with so many zero bytes behind, and its stores. */
+static void show_tree(const char *opening, const char *stores, uint8_t command, const uint8_t *handle, uint32_t more)
+{
+    uint32_t size = 1 + WAGGLELOFT_HANDLE_BYTES + more;
+    memset(request, 0, sizeof request);
+    memcpy(request + 4, &size, sizeof size);
+    request[8] = command;
+    memcpy(request + 9, handle, WAGGLELOFT_HANDLE_BYTES);
+    show_request(opening, WAGGLELOFT_INVOKE_DPE_COMMAND, 8 + size);
+    show(stores, deepest_store());
+}
+
+/* Below the node of the stash a child, which is extended and rotated, and destroyed together with that node. */
+static void show_trees(void)
+{
+    static const uint8_t stashed[WAGGLELOFT_HANDLE_BYTES];
+    uint8_t old[WAGGLELOFT_HANDLE_BYTES];
+    fresh[0] = 1;
+    show_tree("waggleloft_open_request, a derive", "waggleloft_store, of a derive", WAGGLELOFT_TREE_DERIVE, stashed, 2 + 48);
+    show_tree("waggleloft_open_request, an extend", "waggleloft_store, of an extend", WAGGLELOFT_TREE_EXTEND, fresh, 48);
+    memcpy(old, fresh, sizeof old);
+    fresh[0] = 2;
+    show_tree("waggleloft_open_request, a rotate", "waggleloft_store, of a rotate", WAGGLELOFT_TREE_ROTATE, old, 0);
+    show("waggleloft_entry, of a rotate", DEPTH(waggleloft_entry, entry));
+    show_tree("waggleloft_open_request, a destroy", "waggleloft_store, of a destroy", WAGGLELOFT_TREE_DESTROY, fresh, 0);
+}
+
 /* The running digest of two slices; whether it came to the digest of both in one piece. */
 static bool show_running(void)
 {
@@ -130,6 +158,7 @@ int main(void)
     memcpy(request + 4, &pcr, sizeof pcr);
     show_request("waggleloft_open_request, an extension", WAGGLELOFT_EXTEND_PCR, 56);
     show("waggleloft_store, of an extension", deepest_store());
+    show_trees();
     show("waggleloft_open_update_boot", DEPTH(waggleloft_open_update_boot, update_boot));
     show("waggleloft_store, of an update", deepest_store());
     show("waggleloft_entry, of 97 bytes", DEPTH(waggleloft_entry, entry));

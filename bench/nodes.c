@@ -2,11 +2,13 @@
  * Opens one update boot and one stash on an image with a number of its nodes
  * used, laid out in an order, so that their instructions can be counted.
  *
- *   nodes ORDER USED       ORDER: rising, falling or star
+ *   nodes ORDER USED       ORDER: rising, falling, star or live
  *
  * Rising: each node's parent is the one before it, as stashes lay them out.
  * Falling: the root has the highest index, each parent is the one behind it.
- * Star: the root is node 0, and every other node's parent. The last line has
+ * Star: the root is node 0, and every other node's parent. In these the last node
+ * holds the default handle, and all others are retired. Live: as rising, but every
+ * node has a handle of its own, alike in all but the last word. The last line has
  * the update's outcome and the stash's dpe result.
  */
 #include "waggleloft.h"
@@ -20,8 +22,8 @@ static uint32_t root[WAGGLELOFT_NODE_WORDS];
 static const uint8_t digest[48] = {1}, secret[48] = {2};
 static uint8_t request[60], answer[WAGGLELOFT_ANSWER_LONGEST];
 
-#define HANDLE 2
-#define HANDLE_WORDS 5
+#define HANDLE WAGGLELOFT_NODE_HANDLE
+#define HANDLE_WORDS (WAGGLELOFT_HANDLE_BYTES / 4)
 #define ROOT_PARENT 0xFFU
 
 static void fine(uint32_t number)
@@ -57,12 +59,15 @@ static void lay_out(const char *order, size_t used)
 {
     for (size_t k = 0; k < used; k++) {
         bool last = k == used - 1;
-        if (strcmp(order, "rising") == 0)
-            put(k, k - 1, k == 0, last);
+        bool live = strcmp(order, "live") == 0;
+        if (live || strcmp(order, "rising") == 0)
+            put(k, k - 1, k == 0, last || live);
         else if (strcmp(order, "falling") == 0)
             put(used - 1 - k, used - k, k == 0, last);
         else
             put(k, 0, k == 0, last);
+        if (live)
+            node(k)[HANDLE + HANDLE_WORDS - 1] = (uint32_t)(used - 1 - k);
     }
 }
 
@@ -73,7 +78,7 @@ static void open_stash(void)
     uint32_t sum = waggleloft_checksum(WAGGLELOFT_STASH_MEASUREMENT, request + 4, sizeof request - 4);
     for (int i = 0; i < 4; i++)
         request[i] = (uint8_t)(sum >> (8 * i) & 0xFFU);
-    fine(waggleloft_open_request(image, WAGGLELOFT_IMAGE_WORDS, WAGGLELOFT_STASH_MEASUREMENT, request, sizeof request, 1, request, 0, false, work, WAGGLELOFT_WORK_WORDS));
+    fine(waggleloft_open_request(image, WAGGLELOFT_IMAGE_WORDS, WAGGLELOFT_STASH_MEASUREMENT, request, sizeof request, 1, request, 0, false, request, 0, work, WAGGLELOFT_WORK_WORDS));
     while (waggleloft_left(work, WAGGLELOFT_WORK_WORDS) > 0)
         fine(waggleloft_store(work, WAGGLELOFT_WORK_WORDS, image, WAGGLELOFT_IMAGE_WORDS));
     size_t written = 0;

@@ -50,13 +50,13 @@ static void boot_cold(void)
 
 static void extend(uint32_t pcr, const uint8_t digest[WAGGLELOFT_SHA384_BYTES])
 {
-    const uint8_t no_handoff[1] = {0};
+    const uint8_t nothing[1] = {0};
     uint8_t request[REQUEST_BYTES];
     put_number(request + 4, pcr);
     memcpy(request + 8, digest, WAGGLELOFT_SHA384_BYTES);
     put_number(request, waggleloft_checksum(WAGGLELOFT_EXTEND_PCR, request + 4, REQUEST_BYTES - 4));
     run("the extension", waggleloft_open_request(image, WAGGLELOFT_IMAGE_WORDS, WAGGLELOFT_EXTEND_PCR, request, sizeof request, 1,
-                                                 no_handoff, 0, false, work, WAGGLELOFT_WORK_WORDS));
+                                                 nothing, 0, false, nothing, 0, work, WAGGLELOFT_WORK_WORDS));
 }
 
 /* A register is twelve words of the image, a word's lowest byte first. */

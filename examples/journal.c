@@ -18,7 +18,7 @@ static uint32_t work[WAGGLELOFT_WORK_WORDS];
 static FILE *journal;
 
 static const uint8_t secret[48] = {0x5A};
-static const uint8_t no_handoff[1] = {0};
+static const uint8_t nothing[1] = {0};
 
 static void fail(const char *what, uint32_t number)
 {
@@ -80,7 +80,7 @@ static void put_number(uint8_t *bytes, uint32_t number)
 static void send(const char *what, uint32_t code, uint8_t *request, size_t len)
 {
     put_number(request, waggleloft_checksum(code, request + 4, len - 4));
-    run(what, waggleloft_open_request(image, WAGGLELOFT_IMAGE_WORDS, code, request, len, 1, no_handoff, 0, false, work,
+    run(what, waggleloft_open_request(image, WAGGLELOFT_IMAGE_WORDS, code, request, len, 1, nothing, 0, false, nothing, 0, work,
                                       WAGGLELOFT_WORK_WORDS));
 }
 

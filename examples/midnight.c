@@ -54,14 +54,14 @@ static void put_number(uint8_t *bytes, uint32_t number)
 /* The stash of a program's digest and svn: checksum, type 4, digest 48, svn 4. */
 static void open_stash(const uint8_t digest[WAGGLELOFT_SHA384_BYTES], uint32_t svn)
 {
-    const uint8_t no_handoff[1] = {0};
+    const uint8_t nothing[1] = {0};
     uint8_t request[REQUEST_BYTES];
     memcpy(request + 4, "HOUR", 4);
     memcpy(request + 8, digest, WAGGLELOFT_SHA384_BYTES);
     put_number(request + 8 + WAGGLELOFT_SHA384_BYTES, svn);
     put_number(request, waggleloft_checksum(WAGGLELOFT_STASH_MEASUREMENT, request + 4, REQUEST_BYTES - 4));
     uint32_t number = waggleloft_open_request(image, WAGGLELOFT_IMAGE_WORDS, WAGGLELOFT_STASH_MEASUREMENT, request,
-                                              sizeof request, 1, no_handoff, 0, false, work, WAGGLELOFT_WORK_WORDS);
+                                              sizeof request, 1, nothing, 0, false, nothing, 0, work, WAGGLELOFT_WORK_WORDS);
     if (number != WAGGLELOFT_OK)
         refused("the stash", number);
 }

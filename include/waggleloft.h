@@ -30,8 +30,8 @@
  * expects the stack aligned to 16 bytes at a call, and uses the 128 bytes below
  * the stack pointer (the red zone): an interrupt that comes on the same stack
  * must leave them alone, and must keep the SSE registers. The deepest stack is
- * below 3,000 bytes, of a request's opening; below 1,500 of the digest, below
- * 1,700 of the running digest, and 40 bytes of a store (bench/stack works out
+ * below 3,100 bytes, of a request's opening; below 1,500 of the digest, below
+ * 1,700 of the running digest, and 120 bytes of a store (bench/stack works out
  * each). No function allocates, keeps state, has a global variable, waits or
  * throws, so several threads may call them at the same time on different
  * buffers.
@@ -73,7 +73,11 @@ extern "C" {
 #define WAGGLELOFT_ANSWER_LONGEST 104
 
 /* The longest journal entry, in bytes: a buffer of so many bytes takes every entry. */
-#define WAGGLELOFT_ENTRY_LONGEST 97
+#define WAGGLELOFT_ENTRY_LONGEST 104
+
+/* Bytes of a node's handle, and the most bytes of the data of INVOKE_DPE_COMMAND. */
+#define WAGGLELOFT_HANDLE_BYTES 20
+#define WAGGLELOFT_DPE_DATA_LONGEST 1024
 
 /* Bytes of a SHA-384 digest, and of each of a boot's inputs: runtime, manifest, secret. */
 #define WAGGLELOFT_SHA384_BYTES 48
@@ -113,7 +117,7 @@ size_t waggleloft_sha384_state_bytes(void);
 #define WAGGLELOFT_SHORT_BUFFER UINT32_C(8)     /* buffer shorter than the answer, or than 48 bytes */
 #define WAGGLELOFT_NO_STORE_LEFT UINT32_C(9)    /* the work has no store left */
 #define WAGGLELOFT_LONG_MESSAGE UINT32_C(10)    /* message or slice longer than 65,535 bytes */
-#define WAGGLELOFT_NOT_WELL_FORMED UINT32_C(11) /* the image's nodes are not well formed (stash) */
+#define WAGGLELOFT_NOT_WELL_FORMED UINT32_C(11) /* the image's nodes are not well formed (stash, tree) */
 #define WAGGLELOFT_WRONG_REGISTER UINT32_C(12)  /* the register is none of PCR4 to PCR30 (extend) */
 #define WAGGLELOFT_ATTESTATION_OFF UINT32_C(13) /* attestation is off (extend) */
 #define WAGGLELOFT_LONG_TOTAL UINT32_C(16)      /* all slices together would pass 2^32 - 1 bytes */
@@ -141,10 +145,12 @@ size_t waggleloft_sha384_state_bytes(void);
 /* ---- Command codes of the mailbox ---- */
 
 /*
- * Adds a measurement to the list: a free node takes it. The request is 60 bytes:
- * checksum 4, type 4, digest 48, svn 4 (the program's security version number,
- * lowest byte first). The answer is 12 bytes: checksum, status and dpe result,
- * 4 each.
+ * Adds a measurement to the list: a free node takes it, below the node that holds
+ * the default handle, and that handle with it. The request is 60 bytes: checksum
+ * 4, type 4, digest 48, svn 4 (the program's security version number, lowest byte
+ * first). The answer is 12 bytes: checksum, status and dpe result, 4 each. It may
+ * be declined with WAGGLELOFT_DPE_OFF, WAGGLELOFT_DPE_NO_HOLDER or
+ * WAGGLELOFT_DPE_NO_FREE_NODE, the first that applies.
  */
 #define WAGGLELOFT_STASH_MEASUREMENT UINT32_C(0x4D454153)
 
@@ -166,6 +172,59 @@ size_t waggleloft_sha384_state_bytes(void);
 #define WAGGLELOFT_EXTEND_FIRST UINT32_C(4)
 #define WAGGLELOFT_EXTEND_LAST UINT32_C(30)
 
+/*
+ * INVOKE_DPE_COMMAND: a command to the tree of nodes. The request is checksum 4,
+ * the size of its data 4 (lowest byte first, at most WAGGLELOFT_DPE_DATA_LONGEST),
+ * and exactly so many bytes of data. The data is one of the four commands below,
+ * in one byte, and what it takes, with nothing behind it. The answer is 12 bytes
+ * as a stash's.
+ */
+#define WAGGLELOFT_INVOKE_DPE_COMMAND UINT32_C(0x44504543)
+
+/* ---- Commands to the tree ---- */
+
+/*
+ * The first byte of the data; behind it each has the 20 bytes of the handle of
+ * the node that it is about. All zero is the default handle. Retain and type are
+ * numbers in groups of seven bits, the lowest first, the top bit set where
+ * another group follows, in the shortest form.
+ *
+ *   DERIVE   retain (1 or 0), type, digest 48: a free node becomes the child of
+ *            this one, with the fresh handle, the digest and svn 0. With retain 0
+ *            the handle of this node is retired: no command names it any more.
+ *            37 stores, 42 with retain 0
+ *   EXTEND   digest 48: the digest replaces the node's measurement and extends
+ *            its cumulative one. 26 stores
+ *   ROTATE   the node gets the fresh handle in place of its own. 7 stores
+ *   DESTROY  the node is free again, and so is upwards each retired node that is
+ *            left without a child, but never the root. 2 stores and 35 for each
+ *            node that is freed
+ */
+#define WAGGLELOFT_TREE_DERIVE 1
+#define WAGGLELOFT_TREE_EXTEND 2
+#define WAGGLELOFT_TREE_ROTATE 3
+#define WAGGLELOFT_TREE_DESTROY 4
+
+/* ---- Dpe results ---- */
+
+/*
+ * What the answer of a stash or of a command to the tree says in its bytes 8 to
+ * 11. All but WAGGLELOFT_DPE_DONE decline: nothing was stored. A command to the
+ * tree gets the first that applies in this order, refusal
+ * WAGGLELOFT_NOT_WELL_FORMED right after WAGGLELOFT_DPE_OFF: 2, 5, 6, 7, 8, 1, 9,
+ * 10.
+ */
+#define WAGGLELOFT_DPE_DONE UINT32_C(0)           /* served */
+#define WAGGLELOFT_DPE_NO_FREE_NODE UINT32_C(1)   /* all nodes are used (stash, derive) */
+#define WAGGLELOFT_DPE_OFF UINT32_C(2)            /* attestation is off */
+#define WAGGLELOFT_DPE_NO_HOLDER UINT32_C(3)      /* no node holds the default handle (stash) */
+#define WAGGLELOFT_DPE_WRONG_DATA UINT32_C(5)     /* the data is not exactly one command */
+#define WAGGLELOFT_DPE_UNKNOWN_HANDLE UINT32_C(6) /* no node holds the handle, or it is the retired one */
+#define WAGGLELOFT_DPE_OTHER_CALLER UINT32_C(7)   /* the caller's number is not the node's */
+#define WAGGLELOFT_DPE_WRONG_FRESH UINT32_C(8)    /* the fresh handle is not 20 bytes, is all 0 or 0xFF, or is in use */
+#define WAGGLELOFT_DPE_ROOT UINT32_C(9)           /* the root is neither extended nor destroyed */
+#define WAGGLELOFT_DPE_HAS_CHILDREN UINT32_C(10)  /* a node with children is not destroyed */
+
 /* ---- The list of measurements ---- */
 
 /*
@@ -181,10 +240,13 @@ size_t waggleloft_sha384_state_bytes(void);
 #define WAGGLELOFT_NODE_WORDS 35
 
 /*
- * Words within a node: the measured digest (twelve words, a word's lowest byte
- * first), and one each the type, the caller's number (locality) and the svn, as
- * the request gave them. The root's digest is PCR3's, its svn is 0.
+ * Words within a node: the handle (five words, a word's lowest byte first; all
+ * zero is the default handle, all 0xFF a retired one), the measured digest
+ * (twelve words likewise), and one each the type, the caller's number (locality)
+ * and the svn, as the request gave them. The root's digest is PCR3's, its svn is
+ * 0, and so is a derived child's.
  */
+#define WAGGLELOFT_NODE_HANDLE 2
 #define WAGGLELOFT_NODE_CURRENT 8
 #define WAGGLELOFT_NODE_TYPE 32
 #define WAGGLELOFT_NODE_LOCALITY 33
@@ -239,8 +301,10 @@ uint32_t waggleloft_open_update_boot(const uint32_t *image, size_t image_len,
 /*
  * Opens a mailbox request: a command code, its request bytes (the first four
  * are the checksum, lowest byte first), the caller's number, the handoff table
- * (2,048 bytes, for the identity key; any bytes otherwise) and the verdict on
- * a signature (for verify; ignored otherwise).
+ * (2,048 bytes, for the identity key; any bytes otherwise), the verdict on a
+ * signature (for verify; ignored otherwise) and a fresh handle
+ * (WAGGLELOFT_HANDLE_BYTES bytes that were never a handle before, from a random
+ * source, for derive and rotate; any bytes otherwise, of length 0 too).
  *
  * Handed back, the first that applies: WAGGLELOFT_WRONG_WORK,
  * WAGGLELOFT_WRONG_IMAGE, WAGGLELOFT_UNFINISHED, WAGGLELOFT_UNKNOWN_CODE,
@@ -248,9 +312,9 @@ uint32_t waggleloft_open_update_boot(const uint32_t *image, size_t image_len,
  * WAGGLELOFT_WRONG_HANDOFF, WAGGLELOFT_BAD_SIGNATURE,
  * WAGGLELOFT_NOT_WELL_FORMED, or WAGGLELOFT_WRONG_REGISTER before
  * WAGGLELOFT_ATTESTATION_OFF; otherwise WAGGLELOFT_OK, and work is the
- * request's work. A stash that is declined is accepted as a request: its work
- * has nothing to store, and its answer says why. An extension is never
- * declined: with attestation off it is refused.
+ * request's work. A stash or a command to the tree that is declined is accepted
+ * as a request: its work has nothing to store, and its answer says why. An
+ * extension of a register is never declined: with attestation off it is refused.
  *
  * The image is only read. If the request is refused, work stays as it was.
  */
@@ -259,8 +323,9 @@ uint32_t waggleloft_open_request(const uint32_t *image, size_t image_len,
                                  const uint8_t *bytes, size_t bytes_len,
                                  uint32_t caller,
                                  const uint8_t *handoff, size_t handoff_len,
-                                 bool verdict, uint32_t *work,
-                                 size_t work_len);
+                                 bool verdict,
+                                 const uint8_t *fresh, size_t fresh_len,
+                                 uint32_t *work, size_t work_len);
 
 /* ---- A work ---- */
 
@@ -311,7 +376,8 @@ uint32_t waggleloft_answer(const uint32_t *work, size_t work_len,
  * are the unit's journal, which an inspector replays beside a saved image. An
  * entry is at most WAGGLELOFT_ENTRY_LONGEST bytes; that of a work with nothing
  * to store has none. It holds a boot's two digests, a stash's type, digest, svn
- * and caller, or an extension's register and digest; never the secret.
+ * and caller, an extension's register and digest, or the data of a command to the
+ * tree with the fresh handle, if it took one, and the caller; never the secret.
  *
  * Handed back, the first that applies:
  *   WAGGLELOFT_WRONG_WORK       work_len is not WAGGLELOFT_WORK_WORDS

@@ -81,6 +81,9 @@ expect 'words of the image, nodes, where they stand, words of a node' '1520 32 4
 expect 'digest and svn of a node' '8 34' "$NODE_CURRENT $NODE_SVN"
 expect 'stores of a cold boot, a stash, an extension, an update' '1521 54 14 62' \
     "$COLD_STORES $STASH_STORES $EXTENSION_STORES $UPDATE_STORES"
+expect 'bytes of a handle' 20 "$HANDLE_BYTES"
+expect 'stores of a derive with and without retain, an extend, a rotate, a destroy of 1 and of 31 nodes' '37 42 26 7 37 1087' \
+    "$RETAINING_STORES $RETIRING_STORES $EXTEND_STORES $ROTATE_STORES $(destroy_stores 1) $(destroy_stores 31)"
 expect 'a size that the header has not' refused "$(header NODE >"$work/log" && echo taken || echo refused)"
 
 # ---- the picture of docs/ANSWER.md
@@ -129,7 +132,7 @@ expect 'a digest that calls through a pointer' '1 passed, 1 failed, status 1' \
     "$(stacked "extern void (*call)(void); $(frame 100 'call();')")"
 expect 'an archive without the digest' '1 passed, 1 failed, status 1' "$(stacked 'int other(void) { return 1; }')"
 expect 'another function with too much stack' '1 passed, 1 failed, status 1' \
-    "$(stacked "$(frame 100) void other(void) { char b[3100]; use(b); }")"
+    "$(stacked "$(frame 100) void other(void) { char b[3200]; use(b); }")"
 for function in begin feed finish; do
     expect "a running digest's $function within its bound" '2 passed, 0 failed, status 0' \
         "$(stacked "$(frame 100) void waggleloft_sha384_$function(void) { char b[1600]; use(b); }")"

@@ -34,6 +34,16 @@ lines() { # PATTERN WORDS..
     outcome "$root/inspect" "$@" | grep -E -- "$pattern" || true
 }
 
+# The lines of a part of its text, without the title.
+part() { # TITLE IMAGE JOURNAL
+    "$root/inspect" "$2" "$3" 2>said | sed -n "/^$1/,/^\$/p" | sed '1d; /^$/d'
+}
+
+# How many of its lines are longer than 100 columns.
+too_long() { # IMAGE JOURNAL
+    "$root/inspect" "$@" 2>said | LC_ALL=C.UTF-8 awk 'length > 100' | wc -l
+}
+
 # Checks the exit status, that nothing is on standard output, and that the error stream is one line with the
 # words.
 complains() { # NAME WORDS COMMAND..
@@ -73,20 +83,21 @@ expect 'the journal, entry by entry' "$(printf '%s\n' \
     "     3    153 stash     0x00000007 $(short "$rest") svn 300 caller 4294967295 node 2" \
     "     4    210 extension PCR4 by $(short "$(of gears)")" \
     "     5    260 update    runtime $(short "$(of 'runtime 2')")  manifest $(short "$(of 'manifest 2')")")" \
-    "$("$root/inspect" unit.image unit.journal 2>said | sed -n '/^Journal/,/^$/p' | sed '1d;$d')"
-expect 'the chain' "$(printf '%s\n' \
+    "$(part Journal unit.image unit.journal)"
+expect 'the nodes' "$(printf '%s\n' \
+    '  node    type       digest                svn   locality handle' \
     "  0       \"RTJM\"     $(short "${registers[3]}")          0          0 retired" \
     "  └─ 1    \"HOUR\"     $(short "$hours")          3          1 retired" \
     "     └─ 2 0x00000007 $(short "$rest")        300 4294967295 default")" \
-    "$("$root/inspect" unit.image unit.journal 2>said | sed -n '/^Chain/,/^$/p' | sed '1,2d;$d')"
+    "$(part Tree unit.image unit.journal)"
 expect 'the registers' "$(printf '%s\n' \
     "  PCR2   $(short "${registers[2]}")  current: the running software" \
     "  PCR3   $(short "${registers[3]}")  journey: all software since the cold boot" \
     "  PCR4   $(short "${registers[4]}")  a part maker's" \
     "  PCR31  $(short "${registers[31]}")  the stashed measurements" \
     '  the 28 others are zero')" \
-    "$("$root/inspect" unit.image unit.journal 2>said | sed -n '/^Registers/,$p' | sed 1d)"
-expect 'at most 100 columns' 0 "$("$root/inspect" unit.image unit.journal 2>said | LC_ALL=C.UTF-8 awk 'length > 100' | wc -l)"
+    "$(part Registers unit.image unit.journal)"
+expect 'at most 100 columns' 0 "$(too_long unit.image unit.journal)"
 
 # ---- words of the image changed
 
@@ -162,8 +173,10 @@ marked() { # IMAGE JOURNAL
 }
 
 last_group="is not in the shortest form: a number's last group may not be zero."
-refused 'kind 0' 00 20 00 '00 is no kind of entry; the kinds are 01 cold boot, 02 update, 03 disabling, 04 stash, 05 extension.'
-refused 'kind 6' 06 20 06 '06 is no kind of entry; the kinds are 01 cold boot, 02 update, 03 disabling, 04 stash, 05 extension.'
+kinds='01 cold boot, 02 update, 03 disabling, 04 stash, 05 extension, 06 derive, 07 extend, 08 rotate, 09 destroy'
+for kind in 00 0a ff; do
+    refused "kind $kind" $kind 20 $kind "$kind is no kind of entry; the kinds are $kinds."
+done
 refused 'a longer form' 058400 21 00 "its register $last_group"
 refused 'a number over 32 bits' 04ffffffff10 21 10 'its type has more than 32 bits.'
 refused 'a sixth group' "0401${hours}ffffffff80" 21 80 'its svn has more than 32 bits.'
@@ -193,10 +206,138 @@ journal=01$runtime$manifest
 while [ "$used" -lt 32 ]; do stash "$HOUR" "$hours" "$used" 0; done
 save_unit full
 expect 'a chain of all nodes' 'ALIKE status 0' "$(verdict full.image full.journal)"
-expect 'a chain of all nodes: at most 100 columns' 0 "$("$root/inspect" full.image full.journal 2>said | LC_ALL=C.UTF-8 awk 'length > 100' | wc -l)"
+expect 'a chain of all nodes: at most 100 columns' 0 "$(too_long full.image full.journal)"
 expect 'a chain of all nodes: the last' 1 "$(lines '^ {32}└31 "HOUR"' full.image full.journal | wc -l)"
 whole=$journal bytes=$((${#journal} / 2))
 refused 'a stash with no free node' "0401${hours}0101" 24 04 'all 32 nodes are in use: none is free for it.'
+
+# ---- a tree
+
+# A handle of one byte.
+handle() { # BYTE
+    times 20 "$1"
+}
+NODE=$((0x45444F4E))
+a=$(of 'node a') b=$(of 'node b') c=$(of 'node c')
+new_unit
+cold_boot "$runtime" "$manifest"
+derive 0 1 1 "$NODE" "$a" "$(handle a1)"
+derive 1 0 2 "$NODE" "$b" "$(handle a2)"
+derive 0 1 3 "$HOUR" "$c" "$(handle a3)"
+extend_node 3 "$hours"
+rotate 2 "$(handle b2)"
+save_unit tree_first
+destroy 2 1
+derive 3 1 1 7 "$b" "$(handle a1)"
+stash_below 0 2 "$HOUR" "$rest" 9 300
+save_unit tree
+expect 'a tree' 'ALIKE status 0' "$(verdict tree.image tree.journal)"
+expect 'a tree: no note' '' "$(lines '^note' tree.image tree.journal)"
+expect 'a tree: the journal' "$(printf '%s\n' \
+    " order offset entry" \
+    "     1      0 cold boot runtime $(short "$runtime")  manifest $(short "$manifest")" \
+    "     2     97 derive    \"NODE\" $(short "$a") caller 0 node 1" \
+    "                        handle a1a1a1a1..a1a1, below node 0 (default), which is kept" \
+    "     3    193 derive    \"NODE\" $(short "$b") caller 0 node 2" \
+    "                        handle a2a2a2a2..a2a2, below node 1 (a1a1a1a1..a1a1), which is retired" \
+    "     4    289 derive    \"HOUR\" $(short "$c") caller 0 node 3" \
+    "                        handle a3a3a3a3..a3a3, below node 0 (default), which is kept" \
+    "     5    385 extend    node 3 (a3a3a3a3..a3a3) by $(short "$hours") caller 0" \
+    "     6    455 rotate    node 2 (a2a2a2a2..a2a2) is now b2b2b2b2..b2b2 caller 0" \
+    "     7    497 destroy   node 2 (b2b2b2b2..b2b2) caller 0" \
+    "                        with it node 1: retired, and nothing left below" \
+    "     8    519 derive    0x00000007 $(short "$b") caller 0 node 1" \
+    "                        handle a1a1a1a1..a1a1, below node 3 (a3a3a3a3..a3a3), which is kept" \
+    "     9    611 stash     \"HOUR\" $(short "$rest") svn 9 caller 300 node 2")" \
+    "$(part Journal tree.image tree.journal)"
+expect 'a tree: the nodes' "$(printf '%s\n' \
+    '  node    type       digest                svn   locality handle' \
+    "  0       \"RTJM\"     $(short "${registers[3]}")          0          0 retired" \
+    "  ├─ 2    \"HOUR\"     $(short "$rest")          9        300 default" \
+    "  └─ 3    \"HOUR\"     $(short "$hours")          0          0 a3a3a3a3..a3a3" \
+    "     └─ 1 0x00000007 $(short "$b")          0          0 a1a1a1a1..a1a1")" \
+    "$(part Tree tree.image tree.journal)"
+expect 'a tree: at most 100 columns' 0 "$(too_long tree.image tree.journal)"
+expect 'a tree from earlier' 'NOT ALIKE status 1' "$(verdict tree_first.image tree.journal)"
+expect 'a tree from earlier: where it stood' 1 "$(lines '^note     After entry 6 the registers and nodes were' tree_first.image tree.journal | wc -l)"
+expect 'a tree from earlier: how its nodes differ' '≠ 0 ≠ 1 ≠ 2 ' \
+    "$(lines '^[≠+-] .*(RTJM|NODE|HOUR)' tree_first.image tree.journal | sed 's/[├└│─]//g' | awk '{ printf "%s %s ", $1, $2 }')"
+# Two nodes with one handle, and two on each other.
+cp tree.image other.image
+set_word other.image $((400 + 35 + 2)) $((0xA3A3A3A3))
+for k in 3 4 5 6; do set_word other.image $((400 + 35 + k)) $((0xA3A3A3A3)); done
+expect 'a handle on two nodes' 'NOT ALIKE status 1' "$(verdict other.image tree.journal)"
+expect 'a handle on two nodes: it says so' 1 "$(lines '^note     .* not well formed: nodes 1 and 3 have the same handle\.' other.image tree.journal | wc -l)"
+set_word other.image $((400 + 3 * 35)) $((1 << 16 | 1))
+expect 'nodes on each other' 2 "$(lines '^≠ [13] \(on [13]\)' other.image tree.journal | wc -l)"
+expect 'a page of nodes on each other' 'NOT ALIKE status 1' "$(verdict --html page.html other.image tree.journal)"
+
+# Each ground on which a tree command is declined. The nodes: 2 (caller 300, default) and 3 on 0, 1 on 3.
+whole=$journal bytes=$((${#journal} / 2))
+gone=$(handle b2) no=$(handle 00) none=$(handle ff)
+may='has locality 0: caller 1 may not use it.'
+refused 'a retain of 2' "06$none$(number7 2)07$hours${no}01" 24 02 'its retain is 2 and not 0 or 1.'
+refused 'a retain of 2, cut' "06$none$(number7 2)07$hours$no" 22 'the end' 'the journal ends before the end of its caller.'
+refused 'a retain in a longer form' "06${none}8100" 21 00 "its retain $last_group"
+# What follows handle and caller in the entries of the four kinds.
+for kind in 06 07 08 09; do
+    case $kind in
+    06) name=derive between=0007$hours$no ;;
+    07) name=extend between=$hours ;;
+    08) name=rotate between=$no ;;
+    09) name=destroy between='' ;;
+    esac
+    refused "$name: cut in its handle" "$kind${no:2}" 22 'the end' 'the journal ends before the end of its handle.'
+    refused "$name: retired" "$kind$none${between}01" 24 "${none:0:30}"$'\n'"${none:30}" 'a retired handle names no node.'
+    refused "$name: no such handle" "$kind$gone${between}01" 24 "${gone:0:30}"$'\n'"${gone:30}" 'no node has the handle b2b2b2b2..b2b2.'
+    refused "$name: another caller" "$kind$(handle a3)${between}01" 24 01 "node 3 $may"
+    [[ $kind == 0[68] ]] || continue
+    [ $kind = 06 ] && before=0007$hours || before=''
+    for fresh in "$no default" "$none retired"; do
+        unhex "$whole$kind$(handle a3)$before${fresh% *}00" >bad.journal
+        expect "$name: the ${fresh#* } handle for a fresh one" 1 "$(lines "^  Why: its fresh handle is the ${fresh#* } one, which no node is given\\." unit.image bad.journal | wc -l)"
+    done
+    unhex "$whole$kind$(handle a3)$before$(handle a1)00" >bad.journal
+    expect "$name: a fresh handle in use" 1 "$(lines '^  Why: its fresh handle is in use: node 1 has it\.' unit.image bad.journal | wc -l)"
+done
+a3=$(handle a3)
+refused 'a destroy of a node with children' "09${a3}00" 24 "${a3:0:30}"$'\n'"${a3:30}" 'node 3 has children: node 1.'
+bytes=$((bytes + 1)) whole+=03
+off_words='attestation is off: there was a disabling, and no cold boot since; the last disabling is entry 10.'
+refused 'a destroy while off' "09$(handle a1)00" 24 09 "$off_words"
+bytes=0 whole=''
+refused 'a rotate first' "08$no$(handle a1)00" 24 08 "$first_words"
+
+# The root; no default handle; no live handle.
+new_unit
+cold_boot "$runtime" "$manifest"
+whole=$journal bytes=97
+root_words='node 0 is the root, which can be neither extended by a command nor destroyed.'
+refused 'an extend of the root' "07$no${hours}00" 24 "${no:0:30}"$'\n'"${no:30}" "$root_words"
+refused 'a destroy of the root' "09${no}00" 24 "${no:0:30}"$'\n'"${no:30}" "$root_words"
+rotate 0 "$(handle a1)"
+save_unit no_default
+whole=$journal bytes=$((${#journal} / 2))
+expect 'no default handle' 'ALIKE status 0' "$(verdict no_default.image no_default.journal)"
+expect 'no default handle: a note' 1 "$(lines '^note     No node has the default handle: every stash is declined with 3' no_default.image no_default.journal | wc -l)"
+refused 'a stash without a default handle' "0401${hours}0101" 24 04 'no node has the default handle, so there is none to hang on.'
+derive 0 0 1 7 "$a" "$(handle a2)"
+destroy 1
+save_unit none_live
+expect 'no live handle' 'ALIKE status 0' "$(verdict none_live.image none_live.journal)"
+expect 'no live handle: a note' 1 "$(lines '^note     No node has a live handle: until a cold boot nothing can be measured' none_live.image none_live.journal | wc -l)"
+
+# All nodes in use, and freed at once.
+new_unit
+cold_boot "$runtime" "$manifest"
+for ((k = 1; k < 32; k++)); do derive $((k - 1)) 0 $k "$NODE" "$a" "$(handle "$(printf %02x $k)")"; done
+whole=$journal bytes=$((${#journal} / 2))
+refused 'a derive with no free node' "06$(handle 1f)0007$hours${a3}00" 24 06 'all 32 nodes are in use: none is free for it.'
+destroy 31 30 29 28 27 26 25 24 23 22 21 20 19 18 17 16 15 14 13 12 11 10 9 8 7 6 5 4 3 2 1
+save_unit freed
+expect 'all nodes freed at once' 'ALIKE status 0' "$(verdict freed.image freed.journal)"
+expect 'all nodes freed at once: what is left' '0' "$(part Tree freed.image freed.journal | awk 'NR > 1 { print $1 }')"
+expect 'all nodes freed at once: at most 100 columns' 0 "$(too_long freed.image freed.journal)"
 
 # ---- images of other lengths, files that are none
 
@@ -284,6 +425,10 @@ expect 'a page: its tags' '0 left open' "$(balanced page.html)"
 expect 'a page: nothing from elsewhere' 0 "$(grep -cE 'https?:|src=|href|url\(|@import|<script|<link' page.html || true)"
 expect 'a page: the verdict' '<h1>ALIKE</h1>' "$(grep -o '<h1>.*</h1>' page.html)"
 expect 'a page: a picture with every node' 3 "$(grep -c '<circle class="alike"' page.html)"
+expect 'a page of a tree' 'ALIKE status 0' "$(verdict --html tree.html tree.image tree.journal)"
+expect 'a page of a tree: its tags' '0 left open' "$(balanced tree.html)"
+expect 'a page of a tree: its dots' '24 6 56 9 56 9 88 9' "$(sed -n 's/^<circle class="alike" cx="\([0-9]*\)" cy="[0-9]*" r="\([0-9]\)".*/\1 \2/p' tree.html | paste -sd' ')"
+expect 'a page of a tree: its handles' 4 "$(grep -cE '^<text class="small" .*>handle (default|retired|a1a1a1a1\.\.a1a1|a3a3a3a3\.\.a3a3), digest ' tree.html)"
 expect 'a page: the registers in full' 1 "$(grep -c "<code>$stashed</code>" page.html || true)"
 expect 'a page: light and dark' 1 "$(grep -c 'prefers-color-scheme: dark' page.html)"
 cp unit.image other.image

@@ -37,8 +37,8 @@ boot_inputs() { # RUNTIME MANIFEST SECRET: each 48 times one byte
 }
 cold_boot() { printf C && boot_inputs "$1" "$2" "$3"; }
 update_boot() { printf U && boot_inputs "$1" "$2" "$3" && u8 "$4"; }
-request() { # CODE LENGTH REQUEST
-    printf R && u32 "$1" && u32 0 && u8 0 && u16 0 && u16 "$2" && printf '%s' "$3"
+request() { # CODE LENGTH REQUEST: with no handoff table and no fresh handle
+    printf R && u32 "$1" && u32 0 && u8 0 && u16 0 && u16 "$2" && printf '%s' "$3" && u16 0
 }
 stores() { printf S && u32 "$1"; }
 all() { stores 10000; }

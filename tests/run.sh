@@ -194,6 +194,25 @@ expect 'a register that is not extended in words' \
     'The command code is 0x50435245: extend a register.
 The result is 12 (0xC, refused: the register is none of PCR4 to PCR30): nothing was stored, and there is no answer.' \
     "$(extension b7 1f)"
+# A tree command that names the default handle's node, the root, and what the demo says of it first and last. The
+# program lends no fresh handle.
+tree_command() { # CHECKSUM SIZE COMMAND DATA: the lowest byte of each number; the data behind the handle
+    # shellcheck disable=SC2059
+    { printf "CEPD\\x$1\xfe\xff\xff\\x$2\0\0\0\\x$3" && head -c 20 /dev/zero && printf "$4"; } >tree_command
+    "$root/demo" request tree_command 2>/dev/null | sed -n '3p;$p'
+}
+expect 'a destroy of the root in words' \
+    'The command code is 0x44504543: a tree command.
+Its dpe result is 9 (declined: the root can be neither extended nor destroyed).' \
+    "$(tree_command cb 15 04 '')"
+expect 'a rotate without a fresh handle in words' \
+    'The command code is 0x44504543: a tree command.
+Its dpe result is 8 (declined: there is no fresh handle that could be given).' \
+    "$(tree_command cc 15 03 '')"
+expect 'a byte too many in words' \
+    'The command code is 0x44504543: a tree command.
+Its dpe result is 5 (declined: the data are not exactly one tree command).' \
+    "$(tree_command ca 16 04 '\0')"
 printf AB >short
 expect 'a short request in words' \
     'The result is 3 (0x3, refused: unknown command code): nothing was stored, and there is no answer.' \

@@ -65,12 +65,49 @@ update() { # RUNTIME MANIFEST
 }
 
 stash() { # TYPE DIGEST SVN CALLER
-    local holder=${nodes[used - 1]}
-    journal+=04$(number7 "$1")$2$(number7 "$3")$(number7 "$4")
-    registers[31]=$(extended "${registers[31]}" "$2")
-    nodes[used - 1]=${holder:0:16}$retired${holder:56}
-    nodes[used]=$(node_of $(((used - 1) << 16 | 1)) 0 "$2" "$1" "$4" "$3")
+    stash_below $((used - 1)) "$used" "$@"
     used=$((used + 1))
+}
+
+# A stash that takes this node, below that holder of the default handle.
+stash_below() { # HOLDER NODE TYPE DIGEST SVN CALLER
+    journal+=04$(number7 "$3")$4$(number7 "$5")$(number7 "$6")
+    registers[31]=$(extended "${registers[31]}" "$4")
+    give "$1" "$retired"
+    nodes[$2]=$(node_of $(($1 << 16 | 1)) 0 "$4" "$3" "$6" "$5")
+}
+
+# ---- tree commands: the caller says which nodes they are about; handles are 40 digits
+
+handle_of() { echo "${nodes[$1]:16:40}"; }                           # NODE
+give() { nodes[$1]=${nodes[$1]:0:16}$2${nodes[$1]:56}; }              # NODE HANDLE
+locality_of() { echo $((16#$(word32 $((16#${nodes[$1]:264:8}))))); } # NODE
+
+derive() { # PARENT RETAIN NODE TYPE DIGEST FRESH
+    local locality
+    locality=$(locality_of "$1")
+    journal+=06$(handle_of "$1")$(number7 "$2")$(number7 "$4")$5$6$(number7 "$locality")
+    nodes[$3]=$(node_of $(($1 << 16 | 1)) 0 "$5" "$4" "$locality" 0)
+    give "$3" "$6"
+    [ "$2" -eq 1 ] || give "$1" "$retired"
+}
+
+extend_node() { # NODE DIGEST
+    local node=${nodes[$1]}
+    journal+=07$(handle_of "$1")$2$(number7 "$(locality_of "$1")")
+    nodes[$1]=${node:0:64}$2$(extended "${node:160:96}" "$2")${node:256}
+}
+
+rotate() { # NODE FRESH
+    journal+=08$(handle_of "$1")$2$(number7 "$(locality_of "$1")")
+    give "$1" "$2"
+}
+
+# Destroys the first of these nodes; the others go with it.
+destroy() { # NODE..
+    journal+=09$(handle_of "$1")$(number7 "$(locality_of "$1")")
+    local node
+    for node; do nodes[node]=$empty_node; done
 }
 
 extension() { # REGISTER DIGEST

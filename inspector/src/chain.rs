@@ -1,8 +1,8 @@
-//! The chain: the image's nodes as a tree, with what differs from the replayed ones.
+//! The chain of nodes: the image's as a tree, with what differs from the replayed ones.
 
-use crate::image::{Digest, Image, Node, NODES};
+use crate::image::{Handle, Image, Node, NODES};
 use crate::tree::{tree, Line};
-use crate::words::{handle_words, parent_words, short, type_words};
+use crate::words::{handle_words, hex, parent_words, short, type_words};
 
 /// How a node of the image stands to the replayed one.
 #[derive(Clone, Copy, Debug, PartialEq, Eq)]
@@ -66,6 +66,8 @@ pub struct Row {
     pub node: Node,
     /// A line for each field that differs.
     pub differences: Vec<String>,
+    /// The handle in full, where shortened it could be taken for another one.
+    pub whole_handle: Option<String>,
 }
 
 /// The image's nodes, and those that only the replayed chain has.
@@ -83,7 +85,21 @@ pub fn chain(image: &Image, replayed: Option<&Image>) -> Vec<Row> {
     let missing = unused().filter(|&place| nodes[place].is_free() && is_replayed(place));
     stands.extend(missing.map(|place| (place, Stand::Missing)));
     let compared = |(place, stand)| row(place, stand, &nodes[place], replayed);
-    stands.into_iter().map(compared).collect()
+    let mut rows: Vec<Row> = stands.into_iter().map(compared).collect();
+    let handles: Vec<Handle> = rows.iter().map(|row| row.node.handle()).collect();
+    for (row, handle) in rows.iter_mut().zip(&handles) {
+        let is_unclear = is_mistakable(*handle, &handles);
+        row.whole_handle = is_unclear.then(|| format!("handle in full: {}", hex(&handle.bytes())));
+    }
+    rows
+}
+
+/// Whether a live handle, shortened, looks like another one.
+fn is_mistakable(handle: Handle, all: &[Handle]) -> bool {
+    let known = [Handle::Default, Handle::Retired];
+    let looks_like = |other: &Handle| short(&other.bytes()) == short(&handle.bytes());
+    let mut others = all.iter().chain(&known).filter(|other| **other != handle);
+    matches!(handle, Handle::Other(_)) && others.any(looks_like)
 }
 
 fn row(place: usize, stand: Stand, node: &Node, replayed: Option<&Image>) -> Row {
@@ -109,6 +125,7 @@ fn row(place: usize, stand: Stand, node: &Node, replayed: Option<&Image>) -> Row
         mark,
         node: *shown,
         differences,
+        whole_handle: None,
     }
 }
 
@@ -122,7 +139,7 @@ fn differences(image: &Node, replayed: &Node) -> Vec<String> {
         ("tag", |node| format!("{:#x}", node.tag())),
         ("flags", |node| format!("{:#x}", node.flags())),
         ("type", |node| type_words(node.kind())),
-        ("caller", |node| node.caller().to_string()),
+        ("locality", |node| node.locality().to_string()),
         ("svn", |node| node.svn().to_string()),
     ];
     let mut lines: Vec<String> = fields
@@ -131,11 +148,7 @@ fn differences(image: &Node, replayed: &Node) -> Vec<String> {
         .filter(|(_, image, replayed)| image != replayed)
         .map(|(name, image, replayed)| format!("{name}: image {image}, replayed {replayed}"))
         .collect();
-    if image.handle() != replayed.handle() {
-        let (image, replayed) = (image.handle(), replayed.handle());
-        let (image, replayed) = (handle_words(image), handle_words(replayed));
-        lines.push(format!("handle: image {image}, replayed {replayed}"));
-    }
+    lines.extend(handle_difference(image.handle(), replayed.handle()));
     let measurements = [
         ("digest", image.current(), replayed.current()),
         ("cumulative", image.cumulative(), replayed.cumulative()),
@@ -148,8 +161,17 @@ fn differences(image: &Node, replayed: &Node) -> Vec<String> {
     lines
 }
 
-/// The replayed digest, and where it differs: the middle of neither is shown.
-pub fn unlike(image: &Digest, replayed: &Digest) -> Option<String> {
+fn handle_difference(image: Handle, replayed: Handle) -> Option<String> {
+    let words = match (image, replayed) {
+        _ if image == replayed => return None,
+        (Handle::Other(image), Handle::Other(replayed)) => unlike(&image, &replayed)?,
+        _ => format!("replayed {}", handle_words(replayed)),
+    };
+    Some(format!("handle: image {}, {words}", handle_words(image)))
+}
+
+/// The replayed digest or handle, and where it differs: the middle of neither is shown.
+pub fn unlike(image: &[u8], replayed: &[u8]) -> Option<String> {
     let at = image.iter().zip(replayed).position(|(a, b)| a != b)?;
     let replayed = short(replayed);
     Some(format!("replayed {replayed} (unlike from byte {at} on)"))

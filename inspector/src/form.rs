@@ -1,9 +1,8 @@
 //! The form of a journal's entries (docs/REFERENCE.md, section 16).
 
-use crate::image::Digest;
+use std::ops::Range;
 
-/// Bytes of the longest entry, a boot's.
-pub const LONGEST: usize = 1 + 2 * 48;
+use crate::image::{Digest, Handle, HANDLE};
 
 #[derive(Clone, Copy, Debug, PartialEq, Eq)]
 pub enum Entry {
@@ -26,10 +25,42 @@ pub enum Entry {
         register: u32,
         digest: Digest,
     },
+    Derive {
+        handle: Handle,
+        retain: u32,
+        kind: u32,
+        digest: Digest,
+        fresh: Handle,
+        caller: u32,
+    },
+    Extend {
+        handle: Handle,
+        digest: Digest,
+        caller: u32,
+    },
+    Rotate {
+        handle: Handle,
+        fresh: Handle,
+        caller: u32,
+    },
+    Destroy {
+        handle: Handle,
+        caller: u32,
+    },
 }
 
 /// The kinds in their order: the first is kind 1.
-pub const KINDS: [&str; 5] = ["cold boot", "update", "disabling", "stash", "extension"];
+pub const KINDS: [&str; 9] = [
+    "cold boot",
+    "update",
+    "disabling",
+    "stash",
+    "extension",
+    "derive",
+    "extend",
+    "rotate",
+    "destroy",
+];
 
 impl Entry {
     /// The byte of its kind.
@@ -40,12 +71,51 @@ impl Entry {
             Entry::Disabling => 3,
             Entry::Stash { .. } => 4,
             Entry::Extension { .. } => 5,
+            Entry::Derive { .. } => 6,
+            Entry::Extend { .. } => 7,
+            Entry::Rotate { .. } => 8,
+            Entry::Destroy { .. } => 9,
         }
     }
 
     pub fn name(&self) -> &'static str {
         KINDS[usize::from(self.kind()) - 1]
     }
+
+    /// The bytes of a field in an entry of that length, counted from its first. The entry has that field.
+    pub fn bytes_of(&self, field: Field, length: usize) -> Range<usize> {
+        let number = |at, value| at..at + number_bytes(value);
+        let caller_at = length - self.caller().map_or(0, number_bytes);
+        match (field, self) {
+            (Field::Register, Entry::Extension { register, .. }) => number(1, *register),
+            (Field::Handle, _) => 1..1 + HANDLE,
+            (Field::Retain, Entry::Derive { retain, .. }) => number(1 + HANDLE, *retain),
+            (Field::Fresh, _) => caller_at - HANDLE..caller_at,
+            (Field::Caller, _) => caller_at..length,
+            _ => 0..1,
+        }
+    }
+
+    fn caller(&self) -> Option<u32> {
+        match self {
+            Entry::Stash { caller, .. }
+            | Entry::Derive { caller, .. }
+            | Entry::Extend { caller, .. }
+            | Entry::Rotate { caller, .. }
+            | Entry::Destroy { caller, .. } => Some(*caller),
+            _ => None,
+        }
+    }
+}
+
+/// A field that can make an entry impossible.
+#[derive(Clone, Copy, Debug, PartialEq, Eq)]
+pub enum Field {
+    Register,
+    Handle,
+    Retain,
+    Fresh,
+    Caller,
 }
 
 /// The name of a kind, if it is listed.
@@ -100,6 +170,28 @@ pub fn read(bytes: &[u8]) -> Result<(Entry, usize), Stop> {
             register: cursor.number("register")?,
             digest: cursor.digest("digest")?,
         },
+        6 => Entry::Derive {
+            handle: cursor.handle("handle")?,
+            retain: cursor.number("retain")?,
+            kind: cursor.number("type")?,
+            digest: cursor.digest("digest")?,
+            fresh: cursor.handle("fresh handle")?,
+            caller: cursor.number("caller")?,
+        },
+        7 => Entry::Extend {
+            handle: cursor.handle("handle")?,
+            digest: cursor.digest("digest")?,
+            caller: cursor.number("caller")?,
+        },
+        8 => Entry::Rotate {
+            handle: cursor.handle("handle")?,
+            fresh: cursor.handle("fresh handle")?,
+            caller: cursor.number("caller")?,
+        },
+        9 => Entry::Destroy {
+            handle: cursor.handle("handle")?,
+            caller: cursor.number("caller")?,
+        },
         kind => return Err(Stop::Kind(kind)),
     };
     Ok((entry, cursor.at))
@@ -111,12 +203,20 @@ struct Cursor<'a> {
 }
 
 impl Cursor<'_> {
-    fn digest(&mut self, field: &'static str) -> Result<Digest, Stop> {
-        let bytes = self.bytes.get(self.at..self.at + 48);
-        self.at += 48;
+    fn plain<const N: usize>(&mut self, field: &'static str) -> Result<[u8; N], Stop> {
+        let bytes = self.bytes.get(self.at..self.at + N);
+        self.at += N;
         bytes
             .and_then(|bytes| bytes.try_into().ok())
             .ok_or(Stop::Cut { field })
+    }
+
+    fn digest(&mut self, field: &'static str) -> Result<Digest, Stop> {
+        self.plain(field)
+    }
+
+    fn handle(&mut self, field: &'static str) -> Result<Handle, Stop> {
+        self.plain(field).map(Handle::from_bytes)
     }
 
     /// Groups of seven bits, the lowest first; the top bit says that another follows.
@@ -209,30 +309,79 @@ mod tests {
     /// Every proper beginning of every kind's entry is cut, in the field that it ends in.
     #[test]
     fn cut_entries() {
-        let stash = [&[4, 0xAC, 2][..], &[0x66; 48], &[0x80, 1], &[0xAC, 2]].concat();
-        assert!(matches!(read(&stash), Ok((_, 55))));
-        for end in 1..stash.len() {
-            let field = match end {
-                1..=2 => "type",
-                3..=50 => "digest",
-                51..=52 => "svn",
-                _ => "caller",
-            };
-            assert_eq!(read(&stash[..end]), Err(Stop::Cut { field }), "{end}");
-        }
-        for kind in [1, 2] {
-            let boot = [&[kind][..], &[0x11; 96]].concat();
-            assert!(matches!(read(&boot), Ok((_, LONGEST))));
-            for end in 1..boot.len() {
-                assert!(matches!(read(&boot[..end]), Err(Stop::Cut { .. })), "{end}");
+        let (digest, handle, number): (_, _, &[u8]) = ([0x66; 48], [0x77; 20], &[0xAC, 2]);
+        let boot: [(&str, &[u8]); 2] = [("runtime digest", &digest), ("manifest digest", &digest)];
+        let entries: [&[(&str, &[u8])]; 9] = [
+            &boot,
+            &boot,
+            &[],
+            &[
+                ("type", number),
+                ("digest", &digest),
+                ("svn", number),
+                ("caller", number),
+            ],
+            &[("register", number), ("digest", &digest)],
+            &[
+                ("handle", &handle),
+                ("retain", number),
+                ("type", number),
+                ("digest", &digest),
+                ("fresh handle", &handle),
+                ("caller", number),
+            ],
+            &[("handle", &handle), ("digest", &digest), ("caller", number)],
+            &[
+                ("handle", &handle),
+                ("fresh handle", &handle),
+                ("caller", number),
+            ],
+            &[("handle", &handle), ("caller", number)],
+        ];
+        for (kind, fields) in (1..).zip(entries) {
+            let mut bytes = vec![kind];
+            for &(field, part) in fields {
+                for end in 0..part.len() {
+                    let cut = [&bytes[..], &part[..end]].concat();
+                    assert_eq!(read(&cut), Err(Stop::Cut { field }), "kind {kind}");
+                }
+                bytes.extend(part);
             }
+            let (entry, length) = read(&[&bytes[..], &[9; 9]].concat()).expect("an entry");
+            assert_eq!((entry.kind(), length), (kind, bytes.len()));
+        }
+    }
+
+    /// The bytes that a field is read from.
+    #[test]
+    fn places_of_fields() {
+        let (fresh, digest) = ([0x77; 20], [0x66; 48]);
+        let head = |kind: u8| [&[kind][..], &[0x55; 20]].concat();
+        let derive = [&head(6)[..], &[0x80, 1, 7], &digest, &fresh, &[0xAC, 2]].concat();
+        let rotate = [&head(8)[..], &fresh, &[5]].concat();
+        let destroy = [&head(9)[..], &[0x80, 0x80, 1]].concat();
+        let extension = [&[5, 0x84, 2][..], &digest].concat();
+        let cases = [
+            (&derive, Field::Handle, 1..21),
+            (&derive, Field::Retain, 21..23),
+            (&derive, Field::Fresh, 72..92),
+            (&derive, Field::Caller, 92..94),
+            (&rotate, Field::Fresh, 21..41),
+            (&rotate, Field::Caller, 41..42),
+            (&destroy, Field::Caller, 21..24),
+            (&extension, Field::Register, 1..3),
+        ];
+        for (bytes, field, place) in cases {
+            let (entry, length) = read(bytes).expect("an entry");
+            assert_eq!(length, bytes.len());
+            assert_eq!(entry.bytes_of(field, length), place, "{field:?}");
         }
     }
 
     #[test]
     fn kinds() {
         assert_eq!(read(&[3, 0xFF]), Ok((Entry::Disabling, 1)));
-        for kind in (0..=255).filter(|kind| !(1..=5).contains(kind)) {
+        for kind in (0..=255).filter(|kind| !(1..=9).contains(kind)) {
             assert_eq!(read(&[kind]), Err(Stop::Kind(kind)));
             assert_eq!(kind_name(kind), None);
         }

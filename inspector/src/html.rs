@@ -38,6 +38,7 @@ pre { background: var(--box); padding: .8rem 1rem; overflow: auto; }
 mark { color: var(--back); background: var(--bad); padding: 0 .15rem; }
 tr.bad td { background: var(--badbox); color: var(--text); } tr.erased td { color: var(--soft); }
 .difference { color: var(--bad); } figure { margin: 0 0 1rem; overflow: auto; }
+figcaption { color: var(--soft); font-size: .9rem; }
 svg { display: block; max-width: 100%; height: auto; } svg text { fill: var(--text); font-size: 14px; }
 svg .small { fill: var(--soft); font: 12px ui-monospace, monospace; } svg .badtext { fill: var(--bad); }
 svg path { stroke: var(--soft); stroke-width: 2; fill: none; stroke-linejoin: round; }
@@ -208,16 +209,18 @@ fn put_entry(out: &mut String, survey: &Survey, shown: &Shown) -> fmt::Result {
         true => " class=\"erased\"",
         false => "",
     };
-    let holds = entry_words(&shown.entry, shown.node);
-    writeln!(
+    write!(
         out,
-        "<tr{class}><td class=\"number\">{}</td><td class=\"number\">{}</td><td>{}</td>\
-         <td><code>{}</code></td></tr>",
+        "<tr{class}><td class=\"number\">{}</td><td class=\"number\">{}</td><td>{}</td><td>",
         grouped(shown.order),
         grouped(shown.offset),
-        shown.entry.name(),
-        Plain(&holds)
-    )
+        shown.entry.name()
+    )?;
+    for (i, line) in entry_words(&shown.entry, &shown.places).iter().enumerate() {
+        let before = if i == 0 { "" } else { "<br/>" };
+        write!(out, "{before}<code>{}</code>", Plain(line))?;
+    }
+    writeln!(out, "</td></tr>")
 }
 
 /// The refused entry's bytes, with those that decide marked, and why.
@@ -248,7 +251,7 @@ fn put_chain(out: &mut String, seen: &Seen, compared: &str) -> fmt::Result {
     let used = seen.image.nodes().filter(|(_, node)| node.is_used());
     writeln!(
         out,
-        "<h2>Chain: {} of {NODES} nodes used{}</h2>",
+        "<h2>Tree: {} of {NODES} nodes used{}</h2>",
         used.count(),
         Plain(compared)
     )?;
@@ -260,7 +263,7 @@ fn put_chain(out: &mut String, seen: &Seen, compared: &str) -> fmt::Result {
         out,
         "<div class=\"scroll\">\n<table>\n<tr><th></th><th class=\"number\">node</th><th>hangs</th>\
          <th>type</th><th>digest</th><th>cumulative</th><th class=\"number\">svn</th>\
-         <th class=\"number\">caller</th><th>handle</th></tr>"
+         <th class=\"number\">locality</th><th>handle</th></tr>"
     )?;
     let mut stand = None;
     for row in &seen.chain {
@@ -298,11 +301,18 @@ fn put_node(out: &mut String, row: &Row) -> fmt::Result {
     put_digest(out, &node.cumulative())?;
     writeln!(
         out,
-        "<td class=\"number\">{}</td><td class=\"number\">{}</td><td>{}</td></tr>",
+        "<td class=\"number\">{}</td><td class=\"number\">{}</td><td><code title=\"{}\">{}</code></td></tr>",
         node.svn(),
-        node.caller(),
+        node.locality(),
+        hex(&node.handle().bytes()),
         handle_words(node.handle())
     )?;
+    if let Some(line) = &row.whole_handle {
+        writeln!(
+            out,
+            "<tr><td></td><td colspan=\"8\"><code>{line}</code></td></tr>"
+        )?;
+    }
     for difference in &row.differences {
         writeln!(
             out,
@@ -313,7 +323,7 @@ fn put_node(out: &mut String, row: &Row) -> fmt::Result {
     Ok(())
 }
 
-/// A digest shortened; its whole shows where the pointer rests.
+/// A digest shortened; its whole shows where the pointer rests, as a handle's does.
 fn put_digest(out: &mut String, digest: &[u8]) -> fmt::Result {
     write!(
         out,
@@ -339,13 +349,13 @@ fn dots(rows: &[Row]) -> Vec<(usize, usize)> {
     rows.iter().enumerate().map(place).collect()
 }
 
-/// The chain from the root down.
+/// The tree from the root down.
 fn put_picture(out: &mut String, rows: &[Row]) -> fmt::Result {
     let height = ROW_HEIGHT * rows.len() + 4;
     writeln!(
         out,
         "<figure>\n<svg viewBox=\"0 0 960 {height}\" width=\"960\" height=\"{height}\" role=\"img\" \
-         aria-label=\"The chain of nodes from the root down\">"
+         aria-label=\"The tree of nodes from the root down\">"
     )?;
     let dots = dots(rows);
     for (row, dot) in rows.iter().zip(&dots) {
@@ -359,7 +369,12 @@ fn put_picture(out: &mut String, rows: &[Row]) -> fmt::Result {
     for (row, dot) in rows.iter().zip(&dots) {
         put_dot(out, row, *dot)?;
     }
-    writeln!(out, "</svg>\n</figure>")
+    writeln!(out, "</svg>")?;
+    if rows.iter().any(|row| !row.node.handle().is_live()) {
+        let line = "A small dot is a retired node: no handle names it.";
+        writeln!(out, "<figcaption>{line}</figcaption>")?;
+    }
+    writeln!(out, "</figure>")
 }
 
 /// A line from a node down, and across to one that hangs on it.
@@ -367,6 +382,7 @@ fn put_way(out: &mut String, (x, y): (usize, usize), (to_x, to_y): (usize, usize
     writeln!(out, "<path d=\"M{x} {y}V{to_y}H{to_x}\"/>")
 }
 
+/// A node of the picture: a dot, small if the node is retired, and two lines of text.
 fn put_dot(out: &mut String, row: &Row, (x, y): (usize, usize)) -> fmt::Result {
     let class = match (row.stand, row.mark) {
         (Stand::Tree(_), Mark::Unknown) => "unknown",
@@ -375,25 +391,24 @@ fn put_dot(out: &mut String, row: &Row, (x, y): (usize, usize)) -> fmt::Result {
         _ => "apart",
     };
     let node = &row.node;
+    let radius = if node.handle().is_live() { 9 } else { 6 };
     let sign = row.mark.sign().trim();
-    let text_class = if row.mark.is_difference() {
-        " class=\"badtext\""
-    } else {
-        ""
+    let text_class = match row.mark.is_difference() {
+        true => " class=\"badtext\"",
+        false => "",
     };
     let (label, first, second) = (x + 18, y - 2, y + 14);
     let title = format!(
-        "{sign} node {}, {}: type {}, svn {}, caller {}, handle {}",
+        "{sign} node {}, {}: type {}, svn {}, locality {}",
         row.place,
         parent_words(node.parent()),
         type_words(node.kind()),
         node.svn(),
-        node.caller(),
-        handle_words(node.handle())
+        node.locality()
     );
     writeln!(
         out,
-        "<circle class=\"{class}\" cx=\"{x}\" cy=\"{y}\" r=\"9\"/>"
+        "<circle class=\"{class}\" cx=\"{x}\" cy=\"{y}\" r=\"{radius}\"/>"
     )?;
     writeln!(
         out,
@@ -402,7 +417,8 @@ fn put_dot(out: &mut String, row: &Row, (x, y): (usize, usize)) -> fmt::Result {
     )?;
     writeln!(
         out,
-        "<text class=\"small\" x=\"{label}\" y=\"{second}\">digest {}</text>",
+        "<text class=\"small\" x=\"{label}\" y=\"{second}\">handle {}, digest {}</text>",
+        handle_words(node.handle()),
         short(&node.current())
     )
 }

@@ -18,8 +18,9 @@ const SECRET_AT: usize = 4;
 const REGISTERS_AT: usize = 16;
 const NODES_AT: usize = REGISTERS_AT + 12 * REGISTERS;
 
-/// The type of the root, "RTJM".
+/// The type of the root, "RTJM", and its flags: the bit "internal".
 pub const ROOT_TYPE: u32 = u32::from_le_bytes(*b"RTJM");
+pub const ROOT_FLAGS: u32 = 0x8000_0000;
 
 #[derive(Clone, Debug, PartialEq, Eq)]
 pub struct Image {
@@ -123,11 +124,39 @@ pub enum Parent {
     Beyond(u32),
 }
 
+/// Bytes of a handle.
+pub const HANDLE: usize = 20;
+
 #[derive(Clone, Copy, Debug, PartialEq, Eq)]
 pub enum Handle {
+    /// 20 zero bytes.
     Default,
+    /// 20 bytes 0xFF.
     Retired,
-    Other([u8; 20]),
+    Other([u8; HANDLE]),
+}
+
+impl Handle {
+    pub fn from_bytes(bytes: [u8; HANDLE]) -> Self {
+        match bytes {
+            bytes if bytes == [0; HANDLE] => Handle::Default,
+            bytes if bytes == [0xFF; HANDLE] => Handle::Retired,
+            bytes => Handle::Other(bytes),
+        }
+    }
+
+    pub fn bytes(self) -> [u8; HANDLE] {
+        match self {
+            Handle::Default => [0; HANDLE],
+            Handle::Retired => [0xFF; HANDLE],
+            Handle::Other(bytes) => bytes,
+        }
+    }
+
+    /// Whether it can name a node; the default one can.
+    pub fn is_live(self) -> bool {
+        self != Handle::Retired
+    }
 }
 
 #[derive(Clone, Copy, Debug, PartialEq, Eq)]
@@ -178,19 +207,11 @@ impl Node {
     }
 
     pub fn handle(&self) -> Handle {
-        let mut bytes = [0; 20];
-        for (four, word) in bytes.chunks_exact_mut(4).zip(&self.words[2..7]) {
-            four.copy_from_slice(&word.to_le_bytes());
-        }
-        match bytes {
-            [0, ..] if bytes == [0; 20] => Handle::Default,
-            [0xFF, ..] if bytes == [0xFF; 20] => Handle::Retired,
-            _ => Handle::Other(bytes),
-        }
+        Handle::from_bytes(unpacked(&self.words[2..7]))
     }
 
-    pub fn retire(&mut self) {
-        self.words[2..7].fill(u32::MAX);
+    pub fn set_handle(&mut self, handle: Handle) {
+        pack(&handle.bytes(), &mut self.words[2..7]);
     }
 
     pub fn flags(&self) -> u32 {
@@ -219,8 +240,8 @@ impl Node {
         self.words[32]
     }
 
-    /// The number of the caller that it came from.
-    pub fn caller(&self) -> u32 {
+    /// Its locality: the number of the caller that it came from.
+    pub fn locality(&self) -> u32 {
         self.words[33]
     }
 
@@ -228,8 +249,8 @@ impl Node {
         self.words[34]
     }
 
-    pub fn set_labels(&mut self, kind: u32, caller: u32, svn: u32) {
-        self.words[32..].copy_from_slice(&[kind, caller, svn]);
+    pub fn set_labels(&mut self, kind: u32, locality: u32, svn: u32) {
+        self.words[32..].copy_from_slice(&[kind, locality, svn]);
     }
 }
 
@@ -237,15 +258,15 @@ impl Node {
 const ROOT_MARK: u32 = 0xFF;
 
 /// Bytes are kept four to a word, the first in the lowest eight bits.
-fn unpacked(words: &[u32]) -> Digest {
-    let mut bytes = [0; 48];
+fn unpacked<const N: usize>(words: &[u32]) -> [u8; N] {
+    let mut bytes = [0; N];
     for (four, word) in bytes.chunks_exact_mut(4).zip(words) {
         four.copy_from_slice(&word.to_le_bytes());
     }
     bytes
 }
 
-fn pack(bytes: &Digest, words: &mut [u32]) {
+fn pack(bytes: &[u8], words: &mut [u32]) {
     for (word, four) in words.iter_mut().zip(bytes.chunks_exact(4)) {
         *word = four.iter().rev().fold(0, |w, &b| w << 8 | u32::from(b));
     }

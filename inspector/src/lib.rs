@@ -1,5 +1,5 @@
 //! Shows an inspector a saved image and a journal: the verdict in words, the journal entry by entry, the
-//! chain as a tree and the registers, with what differs marked.
+//! nodes as a tree and the registers, with what differs marked.
 //!
 //! The judgement (verdict, refusal, replayed registers) is that of the proved program `replay`. What is
 //! read here is read for display; where it disagrees with the judgement, the report says so.
@@ -14,6 +14,7 @@ pub mod registers;
 pub mod replayed;
 pub mod report;
 pub mod sha384;
+pub mod shape;
 pub mod survey;
 pub mod text;
 pub mod tree;

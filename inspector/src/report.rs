@@ -4,6 +4,7 @@ use crate::chain::{self, chain};
 use crate::image::{self, Image, FIRST_COMPARED, REGISTERS};
 use crate::judge::Judgement;
 use crate::registers::{self, registers};
+use crate::shape;
 use crate::survey::Survey;
 use crate::words::{counted, grouped, listed, number_words};
 
@@ -283,6 +284,7 @@ fn notes(image: &Image, survey: &Survey, goes_on: bool, judgement: &Judgement) -
              interrupted."
         ));
     }
+    notes.extend(shape::remark(image));
     if goes_on {
         notes.push("The journal has more than 2^32 bytes; the rest is not used.".into());
     }

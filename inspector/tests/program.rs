@@ -7,7 +7,7 @@ use std::os::unix::fs::{symlink, FileTypeExt};
 use std::path::{Path, PathBuf};
 use std::process::{Command, Output, Stdio};
 
-use common::{some_unit, Folder, Unit};
+use common::{check_page, some_tree, some_unit, Folder, Unit};
 
 /// An image and a journal in a folder, and a judge that reads them and says what it is told to.
 struct Desk {
@@ -156,6 +156,148 @@ fn one_word_changed() {
         .says("(unlike from byte 24 on)");
 }
 
+/// The lines of a part of the text, from the one behind its title to the next empty one.
+fn part<'a>(text: &'a str, title: &str) -> Vec<&'a str> {
+    let lines = text.lines().skip_while(|line| !line.starts_with(title));
+    lines.skip(1).take_while(|line| !line.is_empty()).collect()
+}
+
+#[test]
+fn a_tree() {
+    let unit = some_tree();
+    let desk = Desk::new("tree", &unit, &verdict(3, &unit));
+    let seen = desk.inspect();
+    seen.ends(0, "ALIKE");
+    assert!(!seen.text.contains("note "), "{}", seen.text);
+    let journal = [
+        " order offset entry",
+        "     1      0 cold boot runtime 11111111..1111  manifest 33333333..3333",
+        "     2     97 derive    \"ENGI\" 21212121..2121 caller 0 node 1",
+        "                        handle a1a1a1a1..a1a1, below node 0 (default), which is kept",
+        "     3    193 derive    \"DOOR\" 22222222..2222 caller 0 node 2",
+        "                        handle a2a2a2a2..a2a2, below node 0 (default), which is kept",
+        "     4    289 derive    \"PUMP\" 23232323..2323 caller 0 node 3",
+        "                        handle a3a3a3a3..a3a3, below node 1 (a1a1a1a1..a1a1), which is kept",
+        "     5    385 derive    \"LOCK\" 24242424..2424 caller 0 node 4",
+        "                        handle a4a4a4a4..a4a4, below node 2 (a2a2a2a2..a2a2), which is retired",
+        "     6    481 extend    node 3 (a3a3a3a3..a3a3) by 43434343..4343 caller 0",
+        "     7    551 rotate    node 1 (a1a1a1a1..a1a1) is now b1b1b1b1..b1b1 caller 0",
+        "     8    593 destroy   node 4 (a4a4a4a4..a4a4) caller 0",
+        "                        with it node 2: retired, and nothing left below",
+        "     9    615 derive    \"DOOR\" 25252525..2525 caller 0 node 2",
+        "                        handle a5a5a5a5..a5a5, below node 0 (default), which is kept",
+        "    10    711 stash     \"HOUR\" 66666666..6666 svn 3 caller 300 node 4",
+    ];
+    assert_eq!(part(&seen.text, "Journal"), journal);
+    let root = &unit.registers()[..48];
+    let digits = |bytes: &[u8]| bytes.iter().map(|b| format!("{b:02x}")).collect::<String>();
+    let root = format!("{}..{}", digits(&root[..4]), digits(&root[46..]));
+    let tree = [
+        "  node    type       digest                svn   locality handle",
+        &format!("  0       \"RTJM\"     {root}          0          0 retired"),
+        "  ├─ 1    \"ENGI\"     21212121..2121          0          0 b1b1b1b1..b1b1",
+        "  │  └─ 3 \"PUMP\"     43434343..4343          0          0 a3a3a3a3..a3a3",
+        "  ├─ 2    \"DOOR\"     25252525..2525          0          0 a5a5a5a5..a5a5",
+        "  └─ 4    \"HOUR\"     66666666..6666          3        300 default",
+    ];
+    assert_eq!(part(&seen.text, "Tree: 5 of 32 nodes used"), tree);
+}
+
+/// The picture has a dot for each node, small for the retired root, and a way to each that hangs on another.
+#[test]
+fn a_picture_of_a_tree() {
+    let unit = some_tree();
+    let desk = Desk::new("picture", &unit, &verdict(3, &unit));
+    let page = desk.page();
+    desk.inspect_with(page.to_str().expect("a name"));
+    let page = fs::read_to_string(page).expect("the page");
+    check_page(&page);
+    let dots = [
+        "cx=\"24\" cy=\"24\" r=\"6\"",
+        "cx=\"56\" cy=\"70\" r=\"9\"",
+        "cx=\"88\" cy=\"116\" r=\"9\"",
+        "cx=\"56\" cy=\"162\" r=\"9\"",
+        "cx=\"56\" cy=\"208\" r=\"9\"",
+    ];
+    let drawn = page.lines().filter(|line| line.starts_with("<circle "));
+    let expected = dots.map(|dot| format!("<circle class=\"alike\" {dot}/>"));
+    assert!(drawn.eq(expected.iter()), "{page}");
+    let ways = [
+        "M24 24V70H56",
+        "M56 70V116H88",
+        "M24 24V162H56",
+        "M24 24V208H56",
+    ];
+    let drawn = page.lines().filter(|line| line.starts_with("<path "));
+    let expected = ways.map(|way| format!("<path d=\"{way}\"/>"));
+    assert!(drawn.eq(expected.iter()), "{page}");
+    for words in [
+        "node 3, on 1: type &quot;PUMP&quot;, svn 0, locality 0<",
+        "handle a3a3a3a3..a3a3, digest 43434343..4343<",
+        "title=\"b1b1b1b1b1b1b1b1b1b1b1b1b1b1b1b1b1b1b1b1\">b1b1b1b1..b1b1<",
+        "handle retired, digest ",
+        "handle default, digest ",
+        "A small dot is a retired node",
+    ] {
+        assert!(page.contains(words), "{words} is not in {page}");
+    }
+}
+
+/// Alike, and yet a reader must know: what the unit declines from now on.
+#[test]
+fn handles_that_are_gone() {
+    let booted = Unit::new().cold_boot(1, 2);
+    let cases = [
+        (
+            booted.clone().rotate(0, 9),
+            "note No node has the default handle: every stash is declined with 3 until a cold boot.",
+        ),
+        (
+            booted.stash(b"ONLY", 1, 2, 3).destroy(&[1]),
+            "note No node has a live handle: until a cold boot nothing can be measured.",
+        ),
+    ];
+    for (i, (unit, words)) in cases.into_iter().enumerate() {
+        let desk = Desk::new(&format!("gone-{i}"), &unit, &verdict(3, &unit));
+        desk.inspect().ends(0, "ALIKE").says(words);
+    }
+}
+
+/// A handle that looks like the default one if it is shortened: text and page have it in full.
+#[test]
+fn a_handle_in_full() {
+    let mut unit = some_tree();
+    unit.journal.clear();
+    let mut handle = [0; 20];
+    handle[10] = 0x5A;
+    unit.put_handle(1, handle);
+    let desk = Desk::new("in-full", &unit, &answer(0, 0, &[0]));
+    let page = desk.page();
+    let seen = desk.inspect_with(page.to_str().expect("a name"));
+    let words = "handle in full: 000000000000000000005a000000000000000000";
+    seen.ends(4, "NOTHING TO COMPARE")
+        .says(&format!("00000000..0000 {words}"));
+    let page = fs::read_to_string(page).expect("the page");
+    assert!(page.contains(&format!("<code>{words}</code>")), "{page}");
+}
+
+/// Nodes that are not well formed are told of, whatever the verdict.
+#[test]
+fn nodes_that_are_not_well_formed() {
+    let unit = some_tree();
+    let mut changed = unit.clone();
+    changed.put_handle(3, unit.handle_of(1));
+    let words = "note The image's nodes are not well formed: nodes 1 and 3 have the same handle.";
+    let desk = Desk::new("shared", &changed, &verdict(2, &unit));
+    desk.inspect()
+        .ends(1, "NOT ALIKE")
+        .says(words)
+        .says("handle: image b1b1b1b1..b1b1, replayed a3a3a3a3..a3a3 (unlike from byte 0 on)");
+    changed.journal.clear();
+    let desk = Desk::new("shared-alone", &changed, &answer(0, 0, &[0]));
+    desk.inspect().ends(4, "NOTHING TO COMPARE").says(words);
+}
+
 #[test]
 fn disabled() {
     let unit = some_unit().disabling();
@@ -185,7 +327,7 @@ fn empty_journal() {
         .ends(4, "NOTHING TO COMPARE")
         .says("The journal is empty")
         .says("no entries")
-        .says("Chain: 3 of 32 nodes used (the image's, not compared)");
+        .says("Tree: 3 of 32 nodes used (the image's, not compared)");
 }
 
 /// Alike, but for what a verdict does not compare: each has its warning, and the status is not 0.
@@ -236,13 +378,14 @@ fn secret() {
 #[test]
 fn refused() {
     let outside = [&[5, 31][..], &[7; 48]].concat();
-    let cases: [(u32, &[u8], &str, &str, &str); 4] = [
+    let unknown = [&[9][..], &[7; 20], &[1]].concat();
+    let cases: [(u32, &[u8], &str, &str, &str); 7] = [
         (
             20,
-            &[6, 7],
+            &[10, 7],
             "kind not listed",
             "unknown",
-            "06 is no kind of entry",
+            "0a is no kind of entry",
         ),
         (
             21,
@@ -265,12 +408,33 @@ fn refused() {
             "extension",
             "register 31 is none of PCR4 to PCR30",
         ),
+        (
+            21,
+            &[&[6][..], &[0; 20], &[0x81, 0]].concat(),
+            "number too long or too large",
+            "derive",
+            "its retain is not in the shortest form",
+        ),
+        (
+            22,
+            &[&[8][..], &[0; 39]].concat(),
+            "cut entry",
+            "rotate",
+            "the journal ends before the end of its fresh handle",
+        ),
+        (
+            24,
+            &unknown,
+            "the unit could not have counted this there",
+            "destroy",
+            "no node has the handle 07070707..0707",
+        ),
     ];
-    for (number, bytes, words, name, why) in cases {
+    for (i, (number, bytes, words, name, why)) in cases.into_iter().enumerate() {
         let mut unit = some_unit();
         unit.journal.extend(bytes);
         let answer = answer(number, 360, &[]);
-        let desk = Desk::new(&format!("refused-{number}"), &unit, &answer);
+        let desk = Desk::new(&format!("refused-{i}"), &unit, &answer);
         desk.inspect()
             .ends(3, &format!("REFUSED: {number}"))
             .says(&format!("begins at offset 360: {words}"))
@@ -310,7 +474,7 @@ fn disagreements() {
     let other = some_unit().extension(9, 9);
     let broken = {
         let mut unit = some_unit();
-        unit.journal.push(9);
+        unit.journal.push(10);
         unit
     };
     let cases = [
@@ -396,7 +560,7 @@ fn judges_that_fail() {
 #[test]
 fn a_judge_that_stops_reading() {
     let mut unit = some_unit();
-    unit.journal.push(9);
+    unit.journal.push(10);
     unit.journal.extend(vec![1; 1_000_000]);
     let desk = Desk::new("stops", &unit, &answer(20, 360, &[]));
     desk.judge_by("head -c 6500 >read; exec <&-; cat answer");
@@ -502,36 +666,6 @@ fn no_colours_without_a_terminal() {
 
 // ---- the page
 
-/// Tags that are opened are closed in their order, and nothing is asked of another file or place.
-#[track_caller]
-fn check_page(page: &str) {
-    let rest = page.strip_prefix("<!DOCTYPE html>").expect("a doctype");
-    let mut open: Vec<&str> = Vec::new();
-    for part in rest.split('<').skip(1) {
-        let (tag, text) = part.split_once('>').expect("a tag ends");
-        assert!(!text.contains('>'), "{text}");
-        assert_eq!(tag.matches('"').count() % 2, 0, "quotes of <{tag}>");
-        let name = tag.split(|c: char| !c.is_ascii_alphanumeric()).next();
-        match tag.strip_prefix('/') {
-            Some(name) => assert_eq!(open.pop(), Some(name)),
-            None if tag.ends_with('/') => {}
-            None => open.push(name.expect("a name")),
-        }
-        if open.last() != Some(&"style") {
-            let entities = text.split('&').skip(1);
-            for entity in entities {
-                assert!(entity.contains(';'), "&{entity}");
-            }
-        }
-    }
-    assert!(open.is_empty(), "{open:?} are left open");
-    for foreign in [
-        "http:", "https:", "src=", "href", "url(", "@import", "<script", "<link",
-    ] {
-        assert!(!page.contains(foreign), "{foreign}");
-    }
-}
-
 #[test]
 fn pages() {
     let unit = some_unit();
@@ -543,7 +677,9 @@ fn pages() {
     let mut broken = unit.clone();
     broken.journal.extend([4, 0x80]);
     let later = unit.clone().cold_boot(1, 2).stash(b"LATE", 1, 1, 1);
+    let tree = some_tree();
     let cases = [
+        (&tree, verdict(3, &tree), "ALIKE", "with it node 2: retired"),
         (&unit, verdict(3, &unit), "ALIKE", "PCR31"),
         (
             &strange,

@@ -4,13 +4,14 @@
 mod journal;
 pub mod replay;
 pub mod slices;
+mod tree;
 pub mod wrong;
 
 use crate::boots::{Boot, Boots, Inputs};
 use crate::engine::Paper;
 use crate::layout::*;
-use crate::memory::Memory;
 use crate::requests::{Extension, Request, Requests, Stash, Task, View};
+use crate::tree::{TreeCall, DEFAULT};
 
 /// Work and its inputs.
 #[derive(Clone, Debug, PartialEq, Eq)]
@@ -21,6 +22,7 @@ pub enum Event {
     BootDisabling,
     Stash(Stash),
     Extension(Extension),
+    Tree(TreeCall),
     Nothing,
 }
 
@@ -32,13 +34,9 @@ impl Event {
             Event::DisableCommand | Event::BootDisabling => Sort::Disabling,
             Event::Stash(_) => Sort::Stash,
             Event::Extension(_) => Sort::Extension,
+            Event::Tree(call) => call.sort(),
             Event::Nothing => Sort::Nothing,
         }
-    }
-
-    /// The number of stores.
-    fn number(&self) -> u32 {
-        self.sort().stores() as u32
     }
 }
 
@@ -47,7 +45,8 @@ struct Node {
     /// None for the root.
     parent: Option<usize>,
     tag: u32,
-    holds: bool,
+    /// None if it is retired.
+    handle: Option<Handle>,
     current: Digest,
     cumulative: Digest,
     kind: u32,
@@ -65,6 +64,12 @@ pub struct Reading {
     root: fn(&Digest) -> Node,
     /// A stash's node below the holder.
     stashed: fn(usize, &Stash) -> Node,
+    /// A derived child below the node that its handle names.
+    derived: fn(usize, &TreeCall) -> Node,
+    /// What a tree command does to that node and those around it.
+    called: fn(&mut State, usize, &TreeCall, Reading),
+    /// Whether a node is freed with its last child.
+    goes: fn(&Node) -> bool,
     /// An event's entry in the journal.
     entry: fn(&Event) -> Vec<u8>,
 }
@@ -74,6 +79,9 @@ impl Reading {
         measure: runtime_then_manifest,
         root,
         stashed,
+        derived: tree::derived,
+        called: State::called,
+        goes: tree::goes,
         entry: Event::entry,
     };
 }
@@ -88,7 +96,7 @@ fn root(journey: &Digest) -> Node {
     Node {
         parent: None,
         tag: 0,
-        holds: true,
+        handle: Some(DEFAULT),
         current: *journey,
         cumulative: extended(&ZERO, journey),
         kind: RTJM,
@@ -101,7 +109,7 @@ fn stashed(holder: usize, stash: &Stash) -> Node {
     Node {
         parent: Some(holder),
         tag: 0,
-        holds: true,
+        handle: Some(DEFAULT),
         current: stash.digest,
         cumulative: extended(&ZERO, &stash.digest),
         kind: stash.kind,
@@ -152,17 +160,19 @@ impl State {
             }
             Event::Stash(stash) => {
                 self.registers[STASHED] = extended(&self.registers[STASHED], &stash.digest);
-                let holds = |node: &Option<Node>| node.as_ref().is_some_and(|node| node.holds);
-                let holder = self.nodes.iter().position(holds);
+                let holder = self.with_handle(&DEFAULT);
                 let holder = holder.expect("a counted stash has a holder");
-                let free = self.nodes.iter().position(Option::is_none);
-                let free = free.expect("a counted stash has a free node");
-                self.nodes[holder].as_mut().expect("it holds").holds = false;
-                self.nodes[free] = Some((reading.stashed)(holder, stash));
+                self.retire(holder);
+                self.put((reading.stashed)(holder, stash));
             }
             Event::Extension(extension) => {
                 let register = &mut self.registers[extension.register as usize];
                 *register = extended(register, &extension.digest);
+            }
+            Event::Tree(call) => {
+                let node = self.with_handle(&call.handle);
+                let node = node.expect("a counted tree command has a node");
+                (reading.called)(&mut self, node, call, reading);
             }
             Event::DisableCommand | Event::BootDisabling | Event::Nothing => {}
         }
@@ -178,10 +188,8 @@ impl State {
                 continue;
             };
             let parent = node.parent.map_or(ROOT_PARENT, |index| index as u32);
-            let handle = match node.holds {
-                true => DEFAULT_HANDLE,
-                false => RETIRED_HANDLE,
-            };
+            let live = node.handle.as_ref();
+            let handle = live.map_or(RETIRED_HANDLE, handle_words);
             words.extend([parent << 16 | USED, node.tag]);
             words.extend(handle);
             words.push(if node.parent.is_none() { INTERNAL } else { 0 });
@@ -197,13 +205,15 @@ impl State {
 #[derive(Clone, Debug, PartialEq, Eq)]
 struct Hand {
     event: Event,
+    /// The number of stores.
+    number: u32,
     made: u32,
     of_boot: bool,
 }
 
 impl Hand {
     fn left(&self) -> u32 {
-        self.event.number() - self.made
+        self.number - self.made
     }
 }
 
@@ -251,13 +261,15 @@ impl Book {
 
     fn read_so(boot: Boot, reading: Reading) -> Book {
         let event = Event::Cold(boot);
+        let number = State::empty().stores(&event, reading);
         Book {
             state: State::empty().after(&event, reading),
             history: vec![event.clone()],
             reading,
             in_hand: Some(Hand {
-                made: event.number(),
                 event,
+                number,
+                made: number,
                 of_boot: false,
             }),
             torn: false,
@@ -273,6 +285,7 @@ impl Book {
                 let event = match accepted.task {
                     Task::Stash(stash) => Event::Stash(stash),
                     Task::Extend(extension) => Event::Extension(extension),
+                    Task::Tree(call) => Event::Tree(call),
                     Task::Disable => Event::DisableCommand,
                     Task::Nothing => Event::Nothing,
                 };
@@ -337,15 +350,15 @@ impl Book {
     }
 
     /// What the request rules see of the book.
-    fn view(&self) -> View {
-        let mut image = vec![0; REGISTERS_AT];
-        image.extend(self.state.words());
+    fn view(&self) -> View<'_> {
         View {
             whole: true,
             done: !self.unfinished,
             on: !self.is_off(),
-            well_formed: Paper.well_formed(&image),
-            full: self.state.nodes.iter().all(Option::is_some),
+            well_formed: self.state.is_well_formed(),
+            held: self.state.with_handle(&DEFAULT).is_some(),
+            full: !self.state.has_room(),
+            tree: &self.state,
         }
     }
 
@@ -361,6 +374,7 @@ impl Book {
     fn takes(&mut self, event: Event, outcome: Option<u8>) -> Opened {
         self.goes();
         let hand = Hand {
+            number: self.state.stores(&event, self.reading),
             event,
             made: 0,
             of_boot: outcome.is_some(),

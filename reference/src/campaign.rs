@@ -174,6 +174,7 @@ fn longest_operations() -> Vec<Op> {
             verdict: 1,
             table: vec![3; table],
             bytes: sealed(code, &vec![0xFF; length - 4]),
+            fresh: Vec::new(),
         })
     };
     vec![

@@ -1,6 +1,7 @@
 //! The engine: the entries, made of parts that each hold a section's rules.
 
 use crate::boots::{Boots, Inputs, Opened};
+use crate::journal::read::Reads;
 use crate::journal::Journals;
 use crate::layout::Digest;
 use crate::mailbox::Program;
@@ -18,6 +19,7 @@ impl Requests for Paper {}
 impl Boots for Paper {}
 impl Works for Paper {}
 impl Journals for Paper {}
+impl Reads for Paper {}
 impl RunningDigest for Paper {}
 impl Program for Paper {}
 impl Host for Paper {}

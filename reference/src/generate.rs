@@ -1,4 +1,4 @@
-//! Scripts by seed. Each mixes pieces of ten sorts and ends with the image. And
+//! Scripts by seed. Each mixes pieces of twelve sorts and ends with the image. And
 //! inputs of the other programs.
 
 mod broken;
@@ -12,6 +12,7 @@ mod fixed_extensions;
 mod fixed_journals;
 mod fixed_nodes;
 mod fixed_svns;
+mod fixed_trees;
 mod images;
 mod journals;
 mod lists;
@@ -19,10 +20,13 @@ mod nodes;
 mod requests;
 mod slices;
 mod svns;
+mod trees;
 mod works;
 
 pub use entries::BORDERS;
-pub use fixed::{entry_inputs, extension_input, fixed_inputs, node_inputs, svn_inputs};
+pub use fixed::{
+    entry_inputs, extension_input, fixed_inputs, node_inputs, svn_inputs, tree_inputs,
+};
 pub use images::{odd_image_1, odd_image_2};
 pub use journals::{replay_inputs, Inspection, LongJournal, Unit};
 pub use nodes::{chain, FORMER_NODES, FORMER_WORDS};
@@ -67,6 +71,7 @@ pub fn script(seed: u64) -> Script {
         2 => {
             maker.long_list();
             maker.extensions();
+            maker.trees();
         }
         3 => maker.images(3),
         4 => {
@@ -80,14 +85,18 @@ pub fn script(seed: u64) -> Script {
         6 => {
             maker.works(12);
             maker.svns();
+            maker.moved_calls();
         }
-        _ => maker.cuts_in_turn(),
+        _ => {
+            maker.cuts_in_turn();
+            maker.trees();
+        }
     }
     if seed % 64 == 63 {
         maker.long_slices();
     }
     while maker.size < ENOUGH && !maker.random.once_in(3) {
-        match maker.random.below(11) {
+        match maker.random.below(13) {
             0 | 1 => maker.lists(1),
             2 => maker.images(1),
             3 => maker.requests(),
@@ -97,6 +106,8 @@ pub fn script(seed: u64) -> Script {
             7 => maker.svns(),
             8 => maker.nodes(),
             9 => maker.entries(),
+            10 => maker.trees(),
+            11 => maker.moved_calls(),
             _ => maker.long_list(),
         }
     }
@@ -120,6 +131,8 @@ struct Maker {
     size: usize,
     /// Counts interrupted works, so that their cuts go through all positions.
     turn: u64,
+    /// The caller of the last stash.
+    caller: u32,
 }
 
 impl Maker {
@@ -130,6 +143,7 @@ impl Maker {
             ops: Vec::new(),
             size: 0,
             turn: 0,
+            caller: 0,
         }
     }
 

@@ -11,6 +11,10 @@ pub const UPDATE_ENTRY: u8 = 2;
 pub const DISABLING_ENTRY: u8 = 3;
 pub const STASH_ENTRY: u8 = 4;
 pub const EXTENSION_ENTRY: u8 = 5;
+pub const DERIVE_ENTRY: u8 = 6;
+pub const REMEASURE_ENTRY: u8 = 7;
+pub const ROTATE_ENTRY: u8 = 8;
+pub const DESTROY_ENTRY: u8 = 9;
 
 /// The bits of a number that a byte holds, and the bit that says that another
 /// byte follows.
@@ -25,6 +29,7 @@ pub const NUMBER_BYTES: u32 = u32::BITS.div_ceil(GROUP_BITS);
 pub enum Value {
     Number(u32),
     Digest(Digest),
+    Handle(Handle),
 }
 
 /// A number in groups of seven bits, the lowest first.
@@ -45,6 +50,7 @@ impl Value {
         match self {
             Value::Number(number) => written(*number),
             Value::Digest(digest) => digest.to_vec(),
+            Value::Handle(handle) => handle.to_vec(),
         }
     }
 }
@@ -96,6 +102,10 @@ pub trait Journals {
             Sort::Disabling => Some(DISABLING_ENTRY),
             Sort::Stash => Some(STASH_ENTRY),
             Sort::Extension => Some(EXTENSION_ENTRY),
+            Sort::Derive | Sort::Succeed => Some(DERIVE_ENTRY),
+            Sort::Remeasure => Some(REMEASURE_ENTRY),
+            Sort::Rotate => Some(ROTATE_ENTRY),
+            Sort::Destroy => Some(DESTROY_ENTRY),
         }
     }
 

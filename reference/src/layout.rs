@@ -39,6 +39,7 @@ pub const EXTENDABLE: RangeInclusive<u64> = 4..=30;
 pub const TAG: usize = 1;
 pub const HANDLE: usize = 2;
 pub const HANDLE_WORDS: usize = 5;
+pub const HANDLE_BYTES: usize = 4 * HANDLE_WORDS;
 pub const FLAGS: usize = 7;
 pub const NODE_CURRENT: usize = 8;
 pub const NODE_CUMULATIVE: usize = 20;
@@ -60,6 +61,15 @@ pub const DISABLING_STORES: usize = 2 + 1 + DIGEST_WORDS;
 pub const UPDATE_STORES: usize = 2 + 5 * DIGEST_WORDS;
 pub const COLD_STORES: usize = 2 + IMAGE_WORDS - 1;
 pub const EXTENSION_STORES: usize = 2 + DIGEST_WORDS;
+pub const DERIVE_STORES: usize = 2 + NODE_WORDS;
+pub const SUCCEED_STORES: usize = DERIVE_STORES + HANDLE_WORDS;
+pub const REMEASURE_STORES: usize = 2 + 2 * DIGEST_WORDS;
+pub const ROTATE_STORES: usize = 2 + HANDLE_WORDS;
+
+/// The stores of a destroy that frees so many nodes.
+pub const fn destroy_stores(freed: usize) -> usize {
+    2 + NODE_WORDS * freed
+}
 
 /// The stores that a stash makes before that of its node's svn.
 pub const BEFORE_SVN: usize = 1 + DIGEST_WORDS + SVN;
@@ -73,19 +83,32 @@ pub enum Sort {
     Update,
     Cold,
     Extension,
+    /// A derive whose parent is retained.
+    Derive,
+    /// A derive whose parent is retired.
+    Succeed,
+    /// An extend of a node's measurement.
+    Remeasure,
+    Rotate,
+    Destroy,
 }
 
 impl Sort {
-    pub const ALL: [Sort; 6] = [
+    pub const ALL: [Sort; 11] = [
         Sort::Nothing,
         Sort::Disabling,
         Sort::Stash,
         Sort::Update,
         Sort::Cold,
         Sort::Extension,
+        Sort::Derive,
+        Sort::Succeed,
+        Sort::Remeasure,
+        Sort::Rotate,
+        Sort::Destroy,
     ];
 
-    /// The number of stores.
+    /// The number of stores; of a destroy, if it frees its node alone.
     pub const fn stores(self) -> usize {
         match self {
             Sort::Nothing => 0,
@@ -94,6 +117,11 @@ impl Sort {
             Sort::Update => UPDATE_STORES,
             Sort::Cold => COLD_STORES,
             Sort::Extension => EXTENSION_STORES,
+            Sort::Derive => DERIVE_STORES,
+            Sort::Succeed => SUCCEED_STORES,
+            Sort::Remeasure => REMEASURE_STORES,
+            Sort::Rotate => ROTATE_STORES,
+            Sort::Destroy => destroy_stores(1),
         }
     }
 }
@@ -103,8 +131,10 @@ pub const DISABLE: u32 = 0x4453_424C;
 pub const IDENTITY: u32 = 0x4944_4549;
 pub const VERIFY: u32 = 0x5349_4756;
 pub const EXTEND: u32 = 0x5043_5245;
+pub const INVOKE: u32 = 0x4450_4543;
 
-/// A command's row in the table of "Mailbox".
+/// A command's row in the table of "Mailbox". The request of `INVOKE` has data
+/// behind these bytes.
 #[derive(Clone, Copy)]
 pub struct Command {
     pub code: u32,
@@ -122,12 +152,13 @@ const fn row(code: u32, name: &'static str, request_bytes: usize, answer_bytes: 
     }
 }
 
-pub const COMMANDS: [Command; 5] = [
+pub const COMMANDS: [Command; 6] = [
     row(STASH, "stash", 60, 12),
     row(DISABLE, "disable", 4, 8),
     row(IDENTITY, "identity", 4, ANSWER_MAX),
     row(VERIFY, "verify", 196, 8),
     row(EXTEND, "extend", 56, 8),
+    row(INVOKE, "invoke", INVOKE_DATA, 12),
 ];
 
 /// The longest answer, an identity key.
@@ -139,7 +170,7 @@ pub fn command(code: u32) -> Option<&'static Command> {
 }
 
 /// The checksum before a request or an answer; behind it an answer's FIPS
-/// status, or the fields of a stash or an extension.
+/// status, or the fields of a stash, of an extension or of a tree command.
 pub const CHECKSUM_BYTES: usize = 4;
 pub const STATUS_BYTES: usize = 4;
 pub const STASH_TYPE: usize = 4;
@@ -147,6 +178,15 @@ pub const STASH_DIGEST: usize = 8;
 pub const STASH_SVN: usize = 56;
 pub const EXTEND_REGISTER: usize = 4;
 pub const EXTEND_DIGEST: usize = 8;
+pub const INVOKE_SIZE: usize = 4;
+pub const INVOKE_DATA: usize = 8;
+
+/// The most bytes of a tree command's data, and its commands.
+pub const DATA_BYTES: usize = 1_024;
+pub const DERIVE_DATA: u8 = 1;
+pub const EXTEND_DATA: u8 = 2;
+pub const ROTATE_DATA: u8 = 3;
+pub const DESTROY_DATA: u8 = 4;
 
 pub const TABLE_BYTES: usize = 2_048;
 pub const TABLE_MARKER: u32 = 0x5448_4643;
@@ -185,10 +225,17 @@ pub mod number {
     pub const SIGNATURE: u32 = 0x4253_4947;
 }
 
-/// The results of a stash in its answer.
+/// The results of a stash or a tree command in its answer.
 pub const DPE_DONE: u32 = 0;
 pub const DPE_FULL: u32 = 1;
 pub const DPE_OFF: u32 = 2;
+pub const DPE_NO_HOLDER: u32 = 3;
+pub const DPE_DATA: u32 = 5;
+pub const DPE_HANDLE: u32 = 6;
+pub const DPE_LOCALITY: u32 = 7;
+pub const DPE_FRESH: u32 = 8;
+pub const DPE_ROOT: u32 = 9;
+pub const DPE_CHILDREN: u32 = 10;
 
 /// A boot's outcomes.
 pub const COLD: u8 = 0;
@@ -198,6 +245,7 @@ pub const DISABLED: u8 = 3;
 
 pub type Digest = [u8; DIGEST_BYTES];
 pub type Words = [u32; DIGEST_WORDS];
+pub type Handle = [u8; HANDLE_BYTES];
 
 /// Forty-eight zero bytes.
 pub const ZERO: Digest = [0; DIGEST_BYTES];
@@ -225,6 +273,11 @@ pub fn words_of(bytes: &Digest) -> Words {
 /// The bytes of twelve words.
 pub fn bytes_of(words: &[u32]) -> Digest {
     std::array::from_fn(|i| words[i / 4].to_le_bytes()[i % 4])
+}
+
+/// A handle's words.
+pub fn handle_words(handle: &Handle) -> [u32; HANDLE_WORDS] {
+    std::array::from_fn(|i| little(&handle[4 * i..]))
 }
 
 /// The number in the first four bytes.

@@ -5,7 +5,8 @@
 //!
 //! The reading of document 01 is `layout`, `memory`, `requests`, `boots`,
 //! `work`, `engine`, `mailbox` and `book`, with document 02's manifest digest,
-//! register extension and svn in them; its running digest is `running` and
+//! register extension and svn in them; its tree commands are `tree` and
+//! `book::tree` besides, its running digest is `running` and
 //! `book::slices`, its journal `journal`, `book::journal` and `book::replay`. Around it: `script` and `player` are the driver, `generate`
 //! makes scripts, `campaign` compares, and `wrong` and `book::wrong` hold what is
 //! wrong on purpose.
@@ -22,6 +23,7 @@ pub mod memory;
 pub mod requests;
 pub mod running;
 pub mod sha384;
+pub mod tree;
 pub mod work;
 
 // What is around it.

@@ -31,6 +31,9 @@ const USAGE: &str = "usage: reference COMMAND
   engines                  a table of all that is wrong on purpose
   help                     this text";
 
+/// For how many scripts the book is kept beside a wrong engine.
+const BOOK_SCRIPTS: u64 = 200;
+
 fn main() -> ExitCode {
     let words: Vec<String> = std::env::args().skip(1).collect();
     match command(&words) {
@@ -172,7 +175,7 @@ fn wrong_engines(count: u64) -> bool {
     let told = |scripts: Option<u64>| scripts.map_or("-".into(), |n| n.to_string());
     let mut engines = 0;
     let mut missed = 0;
-    wrong::caught(count, |caught| {
+    wrong::caught(count, BOOK_SCRIPTS, |caught| {
         engines += 1;
         missed += u64::from(caught.scripts.is_none());
         println!(

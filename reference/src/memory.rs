@@ -26,10 +26,10 @@ pub trait Memory {
                     && self.other_flags_fine(image, index)
                     && self.leads_to_root(image, index)
             })
-            && self.has_one_holder(image)
-            && (0..NODES).filter(used).all(|index| {
-                self.is_holder(image, index) || self.has_handle(image, index, &RETIRED_HANDLE)
-            })
+            && self.has_few_holders(image)
+            && (0..NODES)
+                .filter(used)
+                .all(|index| self.is_alone(image, index))
     }
 
     /// The used node with the root's parent, if there is one.
@@ -103,13 +103,89 @@ pub trait Memory {
         self.is_used(image, index) && self.has_handle(image, index, &DEFAULT_HANDLE)
     }
 
-    fn has_one_holder(&self, image: &[u32]) -> bool {
-        count(|index| self.is_holder(image, index)) == 1
+    fn has_few_holders(&self, image: &[u32]) -> bool {
+        count(|index| self.is_holder(image, index)) <= 1
+    }
+
+    /// Whether no other used node has a node's handle, if that is neither the
+    /// default one nor retired.
+    fn is_alone(&self, image: &[u32], index: usize) -> bool {
+        let handle = handle_of(image, index);
+        let same =
+            |&other: &usize| self.is_used(image, other) && self.has_handle(image, other, &handle);
+        let others = (0..NODES).filter(|&other| other != index);
+        self.is_holder(image, index)
+            || self.is_retired(image, index)
+            || others.filter(same).count() == 0
+    }
+
+    fn is_retired(&self, image: &[u32], index: usize) -> bool {
+        self.has_handle(image, index, &RETIRED_HANDLE)
     }
 
     fn has_handle(&self, image: &[u32], index: usize, wanted: &[u32; HANDLE_WORDS]) -> bool {
-        node_of(image, index)[HANDLE..][..HANDLE_WORDS] == *wanted
+        handle_of(image, index) == *wanted
     }
+
+    /// The used node with a handle, if it is not the retired one.
+    fn named(&self, image: &[u32], handle: &Handle) -> Option<usize> {
+        let wanted = handle_words(handle);
+        let has = |&index: &usize| {
+            self.is_used(image, index)
+                && !self.is_retired(image, index)
+                && self.has_handle(image, index, &wanted)
+        };
+        (0..NODES).find(has)
+    }
+
+    fn locality(&self, image: &[u32], index: usize) -> u32 {
+        node_of(image, index)[LOCALITY]
+    }
+
+    /// The used nodes whose parent is that one.
+    fn children(&self, image: &[u32], index: usize) -> Vec<usize> {
+        let below = |&other: &usize| {
+            self.is_used(image, other) && self.parent(image, other) as usize == index
+        };
+        (0..NODES).filter(below).collect()
+    }
+
+    /// What a destroy of a node frees: it, and upwards each ancestor that is
+    /// retired, not the root, and left without a child.
+    fn freed(&self, image: &[u32], index: usize) -> Vec<usize> {
+        let mut freed = vec![index];
+        let mut last = index;
+        while let Some(above) = self.next_up(image, last) {
+            if freed.len() == NODES || !self.goes_with(image, above, &freed) {
+                break;
+            }
+            freed.push(above);
+            last = above;
+        }
+        freed
+    }
+
+    /// Whether an ancestor of freed nodes is freed too.
+    fn goes_with(&self, image: &[u32], above: usize, freed: &[usize]) -> bool {
+        let children = self.children(image, above);
+        !self.is_root(image, above)
+            && self.is_retired(image, above)
+            && children.iter().all(|child| freed.contains(child))
+    }
+}
+
+/// A node's handle.
+pub fn handle_of(image: &[u32], index: usize) -> [u32; HANDLE_WORDS] {
+    std::array::from_fn(|i| node_of(image, index)[HANDLE + i])
+}
+
+/// What the request rules ask of a tree: of the image's, or of the book's.
+pub trait Tree {
+    /// The live node with a handle.
+    fn named(&self, handle: &Handle) -> Option<usize>;
+    fn locality(&self, index: usize) -> u32;
+    fn is_root(&self, index: usize) -> bool;
+    fn has_child(&self, index: usize) -> bool;
 }
 
 /// An image, and how it is read.
@@ -144,9 +220,31 @@ impl Unit<'_> {
         self.memory.free_node(self.image)
     }
 
+    pub fn freed(self, index: usize) -> Vec<usize> {
+        self.memory.freed(self.image, index)
+    }
+
     /// The bytes of a register, of a measurement or of the secret.
     pub fn bytes_at(self, word: usize) -> Digest {
         bytes_of(&self.image[word..])
+    }
+}
+
+impl Tree for Unit<'_> {
+    fn named(&self, handle: &Handle) -> Option<usize> {
+        self.memory.named(self.image, handle)
+    }
+
+    fn locality(&self, index: usize) -> u32 {
+        self.memory.locality(self.image, index)
+    }
+
+    fn is_root(&self, index: usize) -> bool {
+        self.memory.is_root(self.image, index)
+    }
+
+    fn has_child(&self, index: usize) -> bool {
+        !self.memory.children(self.image, index).is_empty()
     }
 }
 

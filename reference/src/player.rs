@@ -13,8 +13,8 @@ use crate::engine::{Engine, Paper};
 use crate::layout::*;
 use crate::requests::Request;
 use crate::running::Running;
-use crate::script::{Op, Reader, TOTAL, WAITING};
-use crate::work::Work;
+use crate::script::{Op, Reader, FREED_FROM, FREED_NUMBER, TOTAL, WAITING};
+use crate::work::{Freed, Work};
 use entry::Fit;
 use std::collections::BTreeSet;
 
@@ -77,7 +77,22 @@ pub trait Host {
                 }
             }
             3 => work.answer_bytes = value,
-            _ => {}
+            _ => {
+                if let Some(freed) = work.kind.freed() {
+                    self.set_freed(freed, field, value);
+                }
+            }
+        }
+    }
+
+    /// Sets the number of nodes that a destroy frees, or one of its indices.
+    fn set_freed(&self, freed: &mut Freed, field: u8, value: u64) {
+        if field == FREED_NUMBER {
+            freed.number = value;
+        }
+        let place = usize::from(field).checked_sub(FREED_FROM);
+        if let Some(index) = place.and_then(|place| freed.indices.get_mut(place)) {
+            *index = value;
         }
     }
 
@@ -98,7 +113,8 @@ pub struct Seen {
     pub numbers: BTreeSet<(char, u32)>,
     pub kinds: BTreeSet<Sort>,
     pub outcomes: BTreeSet<u8>,
-    pub dpe_results: BTreeSet<u32>,
+    /// A command's code and the dpe result in its answer.
+    pub dpe_results: BTreeSet<(u32, u32)>,
     /// Kind of the work in hand and stores made when a cut came.
     pub cuts: BTreeSet<(Sort, u64)>,
     pub damaged_works: u64,
@@ -227,6 +243,7 @@ impl Player {
                 caller: mail.caller,
                 table: &mail.table,
                 verdict: self.engine.host.is_yes(mail.verdict),
+                fresh: &mail.fresh,
             })?,
             Op::Store(count) => self.stores(count)?,
             Op::Answer(size) => self.answer(size)?,
@@ -313,8 +330,9 @@ impl Player {
     fn request(&mut self, request: Request) -> Result<(), String> {
         let result = self.engine.open_request(&self.image, request);
         if let Ok(work) = &result {
-            if request.code == STASH {
-                self.seen.dpe_results.insert(little(&work.answer[8..]));
+            if matches!(request.code, STASH | INVOKE) {
+                let result = little(&work.answer[8..]);
+                self.seen.dpe_results.insert((request.code, result));
             }
         }
         let opened = self.opened('R', result.map(|work| (work, None)));

@@ -2,10 +2,13 @@
 //! work that it opens. An opening reads the image and changes nothing.
 
 use crate::checksum::{answer_of, checksum};
+use crate::engine::Paper;
+use crate::journal::read::{Bytes, Reads};
 use crate::journal::Value;
 use crate::layout::*;
-use crate::memory::Unit;
-use crate::work::{Kind, Work};
+use crate::memory::{Tree, Unit};
+use crate::tree::{Act, TreeCall, DEFAULT, RETIRED};
+use crate::work::{Freed, Kind, Work};
 
 /// A request as the host hands it over.
 #[derive(Clone, Copy)]
@@ -15,10 +18,13 @@ pub struct Request<'a> {
     pub caller: u32,
     pub table: &'a [u8],
     pub verdict: bool,
+    /// The fresh handle.
+    pub fresh: &'a [u8],
 }
 
 impl Request<'_> {
-    /// A request of caller 0 without a handoff table; the verdict is no.
+    /// A request of caller 0 without a handoff table and without a fresh handle;
+    /// the verdict is no.
     pub fn plain(code: u32, bytes: &[u8]) -> Request<'_> {
         Request {
             code,
@@ -26,30 +32,36 @@ impl Request<'_> {
             caller: 0,
             table: &[],
             verdict: false,
+            fresh: &[],
         }
     }
 }
 
 /// What the request rules look at: in the image, or in the book.
 #[derive(Clone, Copy)]
-pub struct View {
+pub struct View<'a> {
     pub whole: bool,
     pub done: bool,
     pub on: bool,
     pub well_formed: bool,
+    /// Whether a node has the default handle.
+    pub held: bool,
     pub full: bool,
+    pub tree: &'a dyn Tree,
 }
 
-impl View {
+impl View<'_> {
     /// What the request rules see of an image.
-    pub fn of(unit: Unit) -> View {
+    pub fn of<'a>(unit: &'a Unit) -> View<'a> {
         let whole = unit.image.len() == IMAGE_WORDS;
         View {
             whole,
             done: !unit.image.is_empty() && unit.is_done(),
             on: whole && unit.is_on(),
             well_formed: whole && unit.is_well_formed(),
+            held: whole && unit.holder().is_some(),
             full: whole && unit.free_node().is_none(),
+            tree: unit,
         }
     }
 }
@@ -59,6 +71,7 @@ impl View {
 pub enum Task {
     Stash(Stash),
     Extend(Extension),
+    Tree(TreeCall),
     Disable,
     Nothing,
 }
@@ -106,16 +119,37 @@ pub fn first_of(order: &[Refusal]) -> Option<u32> {
     first.map(|&(number, _)| number)
 }
 
+/// Why a stash or a tree command is not carried out: a dpe result in its answer,
+/// or a refusal.
+#[derive(Clone, Copy, Debug, PartialEq, Eq)]
+pub enum Ground {
+    Declined(u32),
+    Refused(u32),
+}
+
+use Ground::{Declined, Refused};
+
+/// The dpe result of the first ground that applies, or the refusal.
+pub fn result_of(grounds: &[(Ground, bool)]) -> Result<u32, u32> {
+    let first = grounds.iter().find(|(_, applies)| *applies);
+    match first {
+        None => Ok(DPE_DONE),
+        Some((Declined(result), _)) => Ok(*result),
+        Some((Refused(number), _)) => Err(*number),
+    }
+}
+
 /// The request rules, each a method, so that an engine can be wrong in just one.
 pub trait Requests {
     /// Opens a request.
     fn open(&self, unit: Unit, request: Request) -> Result<Work, u32> {
-        let Accepted { task, answer } = self.decide(&View::of(unit), request)?;
+        let Accepted { task, answer } = self.decide(&View::of(&unit), request)?;
         Ok(match task {
             Task::Nothing => Work::new(Kind::Nothing, &answer),
             Task::Disable => Work::new(Kind::Disabling, &answer),
             Task::Stash(stash) => self.stash_work(unit, &stash, &answer),
             Task::Extend(extension) => self.extension_work(unit, &extension, &answer),
+            Task::Tree(call) => self.call_work(unit, &call, &answer),
         })
     }
 
@@ -136,6 +170,16 @@ pub trait Requests {
             EXTEND => {
                 let extension = self.extension(request.bytes);
                 (extension.map_or(Task::Nothing, Task::Extend), vec![])
+            }
+            INVOKE => {
+                let call = self.call(request);
+                let grounds = self.call_grounds(view, request, call.as_ref());
+                let result = result_of(&grounds)?;
+                let task = match (result, call) {
+                    (DPE_DONE, Some(call)) => Task::Tree(call),
+                    _ => Task::Nothing,
+                };
+                (task, result.to_le_bytes().to_vec())
             }
             DISABLE => (Task::Disable, vec![]),
             IDENTITY => (Task::Nothing, request.table[KEY_AT..][..KEY_BYTES].to_vec()),
@@ -168,7 +212,19 @@ pub trait Requests {
     }
 
     fn length_fine(&self, code: u32, bytes: &[u8]) -> bool {
-        command(code).is_some_and(|command| bytes.len() == command.request_bytes)
+        match code {
+            INVOKE => self.size_fine(bytes),
+            _ => command(code).is_some_and(|command| bytes.len() == command.request_bytes),
+        }
+    }
+
+    /// Whether a tree command's data has its size, which is not too large.
+    fn size_fine(&self, bytes: &[u8]) -> bool {
+        let parts = bytes.split_at_checked(INVOKE_DATA);
+        parts.is_some_and(|(head, data)| {
+            let size = little(&head[INVOKE_SIZE..]) as usize;
+            size <= DATA_BYTES && size == data.len()
+        })
     }
 
     fn checksum_fine(&self, code: u32, bytes: &[u8]) -> bool {
@@ -208,16 +264,17 @@ pub trait Requests {
 
     /// A stash's dpe result, or a refusal.
     fn stash_result(&self, view: &View) -> Result<u32, u32> {
-        if !view.on {
-            return Ok(DPE_OFF);
-        }
-        if !view.well_formed {
-            return Err(number::TREE);
-        }
-        if view.full {
-            return Ok(DPE_FULL);
-        }
-        Ok(DPE_DONE)
+        result_of(&self.stash_grounds(view))
+    }
+
+    /// A stash's grounds, the first first.
+    fn stash_grounds(&self, view: &View) -> Vec<(Ground, bool)> {
+        vec![
+            (Declined(DPE_OFF), !view.on),
+            (Refused(number::TREE), !view.well_formed),
+            (Declined(DPE_NO_HOLDER), !view.held),
+            (Declined(DPE_FULL), view.full),
+        ]
     }
 
     /// An accepted stash: there is a free node, and a holder.
@@ -261,5 +318,170 @@ pub trait Requests {
         work.extended = words_of(&extended(&old, &extension.digest));
         work.told = vec![Value::Digest(extension.digest)];
         work
+    }
+
+    /// A tree command, if its data is exactly one of the four.
+    fn call(&self, request: Request) -> Option<TreeCall> {
+        let mut data = Bytes::new(request.bytes.get(INVOKE_DATA..)?);
+        let command = data.next()?;
+        let handle = Paper.handle(&mut data).ok()?;
+        let act = self.act(command, &mut data)?;
+        let call = TreeCall::new(handle, act, request.fresh, request.caller);
+        self.ends(&mut data).then_some(call)
+    }
+
+    /// What follows the handle.
+    fn act(&self, command: u8, data: &mut Bytes) -> Option<Act> {
+        Some(match command {
+            DERIVE_DATA => Act::Derive {
+                retain: self.retain(data)?,
+                kind: self.data_number(data)?,
+                digest: Paper.digest(data).ok()?,
+            },
+            EXTEND_DATA => Act::Extend {
+                digest: Paper.digest(data).ok()?,
+            },
+            ROTATE_DATA => Act::Rotate,
+            DESTROY_DATA => Act::Destroy,
+            _ => return None,
+        })
+    }
+
+    /// 1 or 0.
+    fn retain(&self, data: &mut Bytes) -> Option<u32> {
+        self.data_number(data).filter(|&retain| retain <= 1)
+    }
+
+    /// A number as the journal has them.
+    fn data_number(&self, data: &mut Bytes) -> Option<u32> {
+        Paper.number(data).ok()
+    }
+
+    /// Whether no byte is left over.
+    fn ends(&self, data: &mut Bytes) -> bool {
+        data.next().is_none()
+    }
+
+    /// A tree command's grounds, the first first.
+    fn call_grounds(
+        &self,
+        view: &View,
+        request: Request,
+        call: Option<&TreeCall>,
+    ) -> Vec<(Ground, bool)> {
+        let tree = view.tree;
+        let node = call.and_then(|call| tree.named(&call.handle));
+        let is = |sort: fn(Act) -> bool| call.is_some_and(|call| sort(call.act));
+        let strange = node.is_some_and(|node| !self.may_call(tree, node, request.caller));
+        let is_root = node.is_some_and(|node| tree.is_root(node));
+        let has_child = node.is_some_and(|node| tree.has_child(node));
+        vec![
+            (Declined(DPE_OFF), !view.on),
+            (Refused(number::TREE), !view.well_formed),
+            (Declined(DPE_DATA), call.is_none()),
+            (Declined(DPE_HANDLE), node.is_none()),
+            (Declined(DPE_LOCALITY), strange),
+            (
+                Declined(DPE_FRESH),
+                is(Act::takes_fresh) && !self.fresh_fine(tree, request.fresh),
+            ),
+            (Declined(DPE_FULL), is(Act::is_derive) && view.full),
+            (Declined(DPE_ROOT), is(Act::spares_root) && is_root),
+            (
+                Declined(DPE_CHILDREN),
+                is(|act| act == Act::Destroy) && has_child,
+            ),
+        ]
+    }
+
+    /// Whether a node's locality is the caller's.
+    fn may_call(&self, tree: &dyn Tree, node: usize, caller: u32) -> bool {
+        tree.locality(node) == caller
+    }
+
+    /// A handle of its length that is neither zero nor retired and that no node
+    /// has.
+    fn fresh_fine(&self, tree: &dyn Tree, fresh: &[u8]) -> bool {
+        let fresh = Handle::try_from(fresh);
+        fresh
+            .is_ok_and(|fresh| fresh != DEFAULT && fresh != RETIRED && tree.named(&fresh).is_none())
+    }
+
+    /// An accepted tree command on the node that its handle names.
+    fn call_work(&self, unit: Unit, call: &TreeCall, answer: &[u8]) -> Work {
+        let node = unit.named(&call.handle).unwrap_or_default();
+        let mut work = Work::new(self.call_kind(unit, node, call), answer);
+        match call.act {
+            Act::Derive { kind, digest, .. } => {
+                work.node = self.child(node, kind, &digest, call);
+            }
+            Act::Extend { digest } => {
+                let old = unit.bytes_at(crate::layout::node(node) + NODE_CUMULATIVE);
+                work.set_node(NODE_CURRENT, &digest);
+                work.set_node(NODE_CUMULATIVE, &extended(&old, &digest));
+            }
+            Act::Rotate => work.set_handle(&call.fresh),
+            Act::Destroy => {}
+        }
+        work.told = self.told_of_call(call);
+        work
+    }
+
+    /// The kind of a tree command's work, and the nodes that it stores to.
+    fn call_kind(&self, unit: Unit, named: usize, call: &TreeCall) -> Kind {
+        let node = named as u64;
+        let free = unit.free_node().unwrap_or_default() as u64;
+        match call.act {
+            Act::Derive { retain: 0, .. } => Kind::Succeed {
+                node: free,
+                parent: node,
+            },
+            Act::Derive { .. } => Kind::Derive { node: free },
+            Act::Extend { .. } => Kind::Remeasure { node },
+            Act::Rotate => Kind::Rotate { node },
+            Act::Destroy => Kind::Destroy(Freed::of(&unit.freed(named))),
+        }
+    }
+
+    /// A derived child's words.
+    fn child(
+        &self,
+        parent: usize,
+        kind: u32,
+        digest: &Digest,
+        call: &TreeCall,
+    ) -> [u32; NODE_WORDS] {
+        let mut child = Work::new(Kind::Nothing, &[]);
+        child.node[0] = (parent as u32) << 16 | USED;
+        child.set_handle(&call.fresh);
+        child.set_node(NODE_CURRENT, digest);
+        child.set_node(NODE_CUMULATIVE, &extended(&ZERO, digest));
+        child.node[TYPE] = kind;
+        child.node[LOCALITY] = call.caller;
+        child.node
+    }
+
+    /// What the journal tells of a tree command.
+    fn told_of_call(&self, call: &TreeCall) -> Vec<Value> {
+        use Value::{Digest, Number};
+        let (handle, fresh) = (Value::Handle(call.handle), Value::Handle(call.fresh));
+        let caller = Number(call.caller);
+        match call.act {
+            Act::Derive {
+                retain,
+                kind,
+                digest,
+            } => vec![
+                handle,
+                Number(retain),
+                Number(kind),
+                Digest(digest),
+                fresh,
+                caller,
+            ],
+            Act::Extend { digest } => vec![handle, Digest(digest), caller],
+            Act::Rotate => vec![handle, fresh, caller],
+            Act::Destroy => vec![handle, caller],
+        }
     }
 }

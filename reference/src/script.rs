@@ -60,6 +60,8 @@ pub struct Mail {
     pub verdict: u8,
     pub table: Vec<u8>,
     pub bytes: Vec<u8>,
+    /// The fresh handle.
+    pub fresh: Vec<u8>,
 }
 
 impl Mail {
@@ -69,6 +71,7 @@ impl Mail {
         out.push(self.verdict);
         put_string(out, &self.table);
         put_string(out, &self.bytes);
+        put_string(out, &self.fresh);
     }
 }
 
@@ -99,6 +102,11 @@ pub enum Op {
         value: u64,
     },
 }
+
+/// The fields of a destroy: the number of nodes that it frees, and the first of
+/// their indices.
+pub const FREED_NUMBER: u8 = 4;
+pub const FREED_FROM: usize = 16;
 
 /// The fields of the running digest that can be set.
 pub const TOTAL: u8 = 0;
@@ -293,6 +301,7 @@ impl<'a> Fields<'a> {
             verdict: self.byte()?,
             table: self.string()?,
             bytes: self.string()?,
+            fresh: self.string()?,
         })
     }
 }
@@ -321,6 +330,7 @@ mod tests {
                 verdict: 1,
                 table: vec![3; 300],
                 bytes: vec![4; 60],
+                fresh: vec![5; 20],
             }),
             Op::Store(70_000),
             Op::Answer(300),

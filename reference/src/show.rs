@@ -2,7 +2,7 @@
 
 use crate::checksum::checksum;
 use crate::layout::*;
-use crate::script::{BootBytes, Mail, Op, Reader};
+use crate::script::{BootBytes, Mail, Op, Reader, FREED_FROM};
 use crate::sha384::DIGEST_BYTES;
 
 fn hex(bytes: &[u8]) -> String {
@@ -53,13 +53,14 @@ pub fn place(word: usize) -> String {
     }
 }
 
-fn handle_name(words: &[u32]) -> &'static str {
+fn handle_name(words: &[u32]) -> String {
     if words == DEFAULT_HANDLE {
-        "default"
+        "default".into()
     } else if words == RETIRED_HANDLE {
-        "retired"
+        "retired".into()
     } else {
-        "odd handle"
+        let bytes: Vec<u8> = words.iter().flat_map(|word| word.to_le_bytes()).collect();
+        format!("handle {}", told(&bytes))
     }
 }
 
@@ -101,11 +102,12 @@ fn mail(mail: &Mail) -> String {
         None => "missing",
     };
     format!(
-        "{}, caller {:#x}, verdict {}, table {}, {} bytes, checksum {sum}: {}",
+        "{}, caller {:#x}, verdict {}, table {}, fresh {}, {} bytes, checksum {sum}: {}",
         command_name(mail.code),
         mail.caller,
         mail.verdict,
         shortened(&mail.table),
+        shortened(&mail.fresh),
         bytes.len(),
         told(bytes)
     )
@@ -115,6 +117,21 @@ fn mail(mail: &Mail) -> String {
 fn field_name(field: u8, parts: &[&str]) -> String {
     let part = parts.get(usize::from(field)).unwrap_or(&"no part");
     format!("{field} ({part})")
+}
+
+/// A field of a work with what it sets.
+fn work_field(field: u8) -> String {
+    let parts = [
+        "position",
+        "first index or register",
+        "second index",
+        "answer length",
+        "number of freed nodes",
+    ];
+    match usize::from(field).checked_sub(FREED_FROM) {
+        Some(place) if place < NODES => format!("{field} (freed index {place})"),
+        _ => field_name(field, &parts),
+    }
 }
 
 /// An operation as one line.
@@ -129,15 +146,7 @@ pub fn operation(op: &Op) -> String {
         Op::Entry(size) => format!("J {size}"),
         Op::Left => "L".into(),
         Op::Cut => "X".into(),
-        Op::Set { field, value } => {
-            let parts = [
-                "position",
-                "first index or register",
-                "second index",
-                "answer length",
-            ];
-            format!("W {} = {value}", field_name(*field, &parts))
-        }
+        Op::Set { field, value } => format!("W {} = {value}", work_field(*field)),
         Op::Dump => "D".into(),
         Op::Begin => "b".into(),
         Op::Feed(slice) => format!("f {}", shortened(slice)),

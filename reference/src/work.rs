@@ -4,6 +4,8 @@
 use crate::journal::Value;
 use crate::layout::*;
 
+/// What a work does, by value; a destroy lists the nodes that it frees.
+#[allow(clippy::large_enum_variant)]
 #[derive(Clone, Copy, Debug, PartialEq, Eq)]
 pub enum Kind {
     Cold,
@@ -11,7 +13,35 @@ pub enum Kind {
     Disabling,
     Stash { node: u64, holder: u64 },
     Extension { register: u64 },
+    Derive { node: u64 },
+    Succeed { node: u64, parent: u64 },
+    Remeasure { node: u64 },
+    Rotate { node: u64 },
+    Destroy(Freed),
     Nothing,
+}
+
+/// The nodes that a destroy frees: so many of the indices, in this order.
+#[derive(Clone, Copy, Debug, PartialEq, Eq)]
+pub struct Freed {
+    pub number: u64,
+    pub indices: [u64; NODES],
+}
+
+impl Freed {
+    /// Zero behind the last.
+    pub fn of(nodes: &[usize]) -> Freed {
+        let index = |place: usize| nodes.get(place).map_or(0, |&node| node as u64);
+        Freed {
+            number: nodes.len() as u64,
+            indices: std::array::from_fn(index),
+        }
+    }
+
+    /// The indices that count.
+    pub fn counted(&self) -> &[u64] {
+        &self.indices[..self.number.min(NODES as u64) as usize]
+    }
 }
 
 /// An index that a work carries, by what it names.
@@ -36,17 +66,40 @@ impl Kind {
             Kind::Disabling => Sort::Disabling,
             Kind::Stash { .. } => Sort::Stash,
             Kind::Extension { .. } => Sort::Extension,
+            Kind::Derive { .. } => Sort::Derive,
+            Kind::Succeed { .. } => Sort::Succeed,
+            Kind::Remeasure { .. } => Sort::Remeasure,
+            Kind::Rotate { .. } => Sort::Rotate,
+            Kind::Destroy(_) => Sort::Destroy,
             Kind::Nothing => Sort::Nothing,
         }
     }
 
-    /// The indices, the first first.
+    /// The indices, the first first; a destroy has others.
     pub fn indices(&mut self) -> Vec<Index<'_>> {
         match self {
-            Kind::Stash { node, holder } => vec![Index::Node(node), Index::Node(holder)],
-            Kind::Update { root } => vec![Index::Node(root)],
+            Kind::Stash {
+                node,
+                holder: second,
+            }
+            | Kind::Succeed {
+                node,
+                parent: second,
+            } => vec![Index::Node(node), Index::Node(second)],
+            Kind::Update { root: node }
+            | Kind::Derive { node }
+            | Kind::Remeasure { node }
+            | Kind::Rotate { node } => vec![Index::Node(node)],
             Kind::Extension { register } => vec![Index::Register(register)],
-            Kind::Cold | Kind::Disabling | Kind::Nothing => vec![],
+            Kind::Cold | Kind::Disabling | Kind::Destroy(_) | Kind::Nothing => vec![],
+        }
+    }
+
+    /// The nodes that a destroy frees.
+    pub fn freed(&mut self) -> Option<&mut Freed> {
+        match self {
+            Kind::Destroy(freed) => Some(freed),
+            _ => None,
         }
     }
 }
@@ -90,6 +143,11 @@ impl Work {
         }
     }
 
+    /// Sets the handle of the prepared node.
+    pub fn set_handle(&mut self, handle: &Handle) {
+        self.node[HANDLE..][..HANDLE_WORDS].copy_from_slice(&handle_words(handle));
+    }
+
     /// Sets a measurement of the prepared node.
     pub fn set_node(&mut self, offset: usize, measurement: &Digest) {
         self.node[offset..][..DIGEST_WORDS].copy_from_slice(&words_of(measurement));
@@ -101,6 +159,9 @@ pub type Field<'a> = (usize, &'a [u32]);
 
 const MARK_OPEN: Field = (MARK, &[0]);
 const MARK_DONE: Field = (MARK, &[DONE]);
+
+/// The words of a free node.
+const BLANK: [u32; NODE_WORDS] = [0; NODE_WORDS];
 
 /// The rules of works, each a method, so that an engine can be wrong in just
 /// one.
@@ -144,6 +205,38 @@ pub trait Works {
                 MARK_DONE,
             ],
             Kind::Cold => vec![MARK_OPEN, (ATTESTATION, &work.whole), MARK_DONE],
+            Kind::Derive { node: new } => {
+                vec![MARK_OPEN, (node(new as usize), &work.node), MARK_DONE]
+            }
+            Kind::Succeed { node: new, parent } => vec![
+                MARK_OPEN,
+                (node(new as usize), &work.node),
+                (node(parent as usize) + HANDLE, &RETIRED_HANDLE),
+                MARK_DONE,
+            ],
+            Kind::Remeasure { node: old } => vec![
+                MARK_OPEN,
+                (node(old as usize) + NODE_CURRENT, measurement(NODE_CURRENT)),
+                (
+                    node(old as usize) + NODE_CUMULATIVE,
+                    measurement(NODE_CUMULATIVE),
+                ),
+                MARK_DONE,
+            ],
+            Kind::Rotate { node: old } => vec![
+                MARK_OPEN,
+                (
+                    node(old as usize) + HANDLE,
+                    &work.node[HANDLE..][..HANDLE_WORDS],
+                ),
+                MARK_DONE,
+            ],
+            Kind::Destroy(freed) => {
+                let free = |&index: &u64| (node(index as usize), &BLANK[..]);
+                let freed = freed.counted().iter().map(free);
+                let marked = [MARK_OPEN].into_iter().chain(freed);
+                marked.chain([MARK_DONE]).collect()
+            }
         }
     }
 
@@ -167,9 +260,24 @@ pub trait Works {
 
     /// Whether indices, answer length and position are within their bounds.
     fn is_sound(&self, work: &Work) -> bool {
-        let mut kind = work.kind;
-        let within = kind.indices().iter().all(|index| self.is_within(index));
-        within && work.answer_bytes <= ANSWER_MAX as u64 && work.position <= self.number(work)
+        self.is_aimed(&work.kind)
+            && work.answer_bytes <= ANSWER_MAX as u64
+            && work.position <= self.number(work)
+    }
+
+    /// Whether all indices of a kind are within their bounds.
+    fn is_aimed(&self, kind: &Kind) -> bool {
+        match kind {
+            Kind::Destroy(freed) => self.are_nodes(freed),
+            Kind::Cold | Kind::Disabling | Kind::Nothing => true,
+            _ => kind.clone().indices().iter().all(|i| self.is_within(i)),
+        }
+    }
+
+    /// Whether a destroy has no more nodes than there are, and each is one.
+    fn are_nodes(&self, freed: &Freed) -> bool {
+        let nodes = freed.counted().iter();
+        freed.number <= NODES as u64 && nodes.copied().all(|index| self.is_node(index))
     }
 
     fn is_within(&self, index: &Index) -> bool {

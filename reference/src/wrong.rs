@@ -19,6 +19,7 @@ mod running;
 mod shortcuts;
 mod stash;
 mod svn;
+mod tree;
 mod walk;
 mod works;
 
@@ -78,6 +79,7 @@ pub const GROUPS: &[Group] = &[
     group("Stash", stash::ENGINES, ByScripts),
     group("The svn", svn::ENGINES, ByScripts),
     group("Extension", extension::ENGINES, ByScripts),
+    group("Nodes as a tree", tree::ENGINES, ByScripts),
     group("Boots", boots::ENGINES, ByScripts),
     group("The manifest digest", manifest::ENGINES, ByScripts),
     group("Works by value", works::ENGINES, ByScripts),

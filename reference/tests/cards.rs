@@ -292,7 +292,7 @@ fn odd_image_2_is_well_formed_and_full() {
 #[test]
 fn damage_that_is_not_well_formed() {
     let (root, second) = (node(0), node(1));
-    let cases: [(usize, u32); 20] = [
+    let cases: [(usize, u32); 18] = [
         (second, 0x0005_0000),
         (IMAGE_WORDS - 1, 1),
         (second + SVN, 1),
@@ -308,8 +308,6 @@ fn damage_that_is_not_well_formed() {
         (root + FLAGS, 0xC000_0000),
         (root + FLAGS, 0x8000_0001),
         (root + TYPE, 0),
-        (root + HANDLE, u32::MAX),
-        (root + HANDLE + 4, 1),
         (second + FLAGS, 0x8000_0000),
         (second, 1),
         (second, 0x00FF_0001),
@@ -333,6 +331,9 @@ fn what_does_not_count() {
         (node(0) + TAG, 9),
         (node(0) + LOCALITY, 9),
         (node(0) + SVN, 9),
+        // A handle that is nobody else's.
+        (node(0) + HANDLE, u32::MAX),
+        (node(0) + HANDLE + 4, 1),
     ] {
         let mut image = booted();
         image[word] = value;
@@ -424,6 +425,7 @@ fn a_request_over_a_half_stored_work_leaves_it_in_hand() {
             verdict: 0,
             table: vec![],
             bytes: sealed(STASH, &[filling; 56]),
+            fresh: Vec::new(),
         })
     };
     let boot = |filling: u8| BootBytes {

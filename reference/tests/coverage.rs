@@ -75,10 +75,13 @@ fn the_first_scripts_reach_everything() {
         seen.outcomes.iter().copied().collect::<Vec<_>>(),
         [0, 1, 2, 3]
     );
-    assert_eq!(
-        seen.dpe_results.iter().copied().collect::<Vec<_>>(),
-        [0, 1, 2]
-    );
+    let results = |code: u32| -> Vec<u32> {
+        let of_code = |&&(other, _): &&(u32, u32)| other == code;
+        let results = seen.dpe_results.iter();
+        results.filter(of_code).map(|result| result.1).collect()
+    };
+    assert_eq!(results(STASH), [0, 1, 2, 3]);
+    assert_eq!(results(INVOKE), [0, 1, 2, 5, 6, 7, 8, 9, 10]);
     for sort in Sort::ALL.into_iter().filter(|&sort| sort != Sort::Cold) {
         for position in 0..=sort.stores() as u64 {
             assert!(seen.cuts.contains(&(sort, position)), "{sort:?} {position}");
@@ -601,7 +604,16 @@ fn the_inputs_without_a_seed_hold_every_case() {
         all.waiting.extend(player.seen.waiting);
         all.cuts.extend(player.seen.cuts);
     }
-    for sort in [Sort::Extension, Sort::Stash] {
+    let torn = [
+        Sort::Extension,
+        Sort::Stash,
+        Sort::Derive,
+        Sort::Succeed,
+        Sort::Remeasure,
+        Sort::Rotate,
+        Sort::Destroy,
+    ];
+    for sort in torn {
         for position in 0..=sort.stores() as u64 {
             assert!(all.cuts.contains(&(sort, position)), "{sort:?} {position}");
         }
@@ -665,7 +677,7 @@ fn a_seed_gives_the_same_script() {
 fn every_wrong_engine_is_caught() {
     let mut names = BTreeSet::new();
     let mut missed = Vec::new();
-    caught(1_000, |caught| {
+    caught(1_000, 0, |caught| {
         assert!(names.insert(caught.wrong.name), "a name twice");
         if caught.scripts.is_none() {
             missed.push(caught.wrong.name);

@@ -32,6 +32,7 @@ fn request(code: u32, body: &[u8]) -> Op {
         verdict: 1,
         table: vec![],
         bytes: sealed(code, body),
+        fresh: Vec::new(),
     })
 }
 

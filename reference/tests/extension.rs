@@ -263,6 +263,7 @@ fn driven(made: usize) -> Player {
             verdict: 0,
             table: vec![],
             bytes: sealed(CODE, &body(17, filling)),
+            fresh: Vec::new(),
         })
     };
     let boot = BootBytes::from(BOOTED_WITH);

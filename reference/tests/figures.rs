@@ -6,7 +6,9 @@ use reference::generate::{FORMER_NODES, FORMER_WORDS};
 use reference::journal::*;
 use reference::layout::*;
 use reference::mailbox::BOOTED_WITH;
+use reference::script::{FREED_FROM, FREED_NUMBER};
 use reference::sha384::BLOCK_BYTES;
+use reference::tree::{DEFAULT, RETIRED};
 
 #[test]
 fn the_image() {
@@ -38,9 +40,16 @@ fn the_numbers_of_stores() {
     assert_eq!((STASH_STORES, DISABLING_STORES), (54, 15));
     assert_eq!((UPDATE_STORES, COLD_STORES), (62, 1_521));
     assert_eq!(EXTENSION_STORES, 14);
+    assert_eq!((DERIVE_STORES, SUCCEED_STORES), (37, 42));
+    assert_eq!((REMEASURE_STORES, ROTATE_STORES), (26, 7));
+    assert_eq!([0, 1, 2, 32].map(destroy_stores), [2, 37, 72, 1_122]);
     assert_eq!(BEFORE_SVN, 47);
-    assert_eq!(Sort::ALL.map(Sort::stores), [0, 15, 54, 62, 1_521, 14]);
-    assert_eq!(Sort::ALL.map(|sort| sort as usize), [0, 1, 2, 3, 4, 5]);
+    assert_eq!(
+        Sort::ALL.map(Sort::stores),
+        [0, 15, 54, 62, 1_521, 14, 37, 42, 26, 7, 37]
+    );
+    let numbers = Sort::ALL.map(|sort| sort as usize);
+    assert!(numbers.into_iter().eq(0..11));
 }
 
 #[test]
@@ -61,6 +70,7 @@ fn the_commands() {
             (0x4944_4549, 4, 104),
             (0x5349_4756, 196, 8),
             (0x5043_5245, 56, 8),
+            (0x4450_4543, 8, 12),
         ]
     );
     assert_eq!(rows.iter().map(|row| row.2).max(), Some(ANSWER_MAX));
@@ -80,9 +90,24 @@ fn an_extension() {
 }
 
 #[test]
+fn a_tree_command() {
+    assert_eq!((INVOKE_SIZE, INVOKE_DATA, DATA_BYTES), (4, 8, 1_024));
+    assert_eq!((DERIVE_DATA, EXTEND_DATA), (1, 2));
+    assert_eq!((ROTATE_DATA, DESTROY_DATA), (3, 4));
+    assert_eq!(HANDLE_BYTES, 20);
+    assert_eq!((DPE_DONE, DPE_FULL, DPE_OFF, DPE_NO_HOLDER), (0, 1, 2, 3));
+    assert_eq!((DPE_DATA, DPE_HANDLE, DPE_LOCALITY), (5, 6, 7));
+    assert_eq!((DPE_FRESH, DPE_ROOT, DPE_CHILDREN), (8, 9, 10));
+    assert_eq!((FREED_NUMBER, FREED_FROM), (4, 16));
+    assert_eq!((DEFAULT, RETIRED), ([0; 20], [0xFF; 20]));
+}
+
+#[test]
 fn the_journal() {
     assert_eq!((COLD_ENTRY, UPDATE_ENTRY, DISABLING_ENTRY), (1, 2, 3));
     assert_eq!((STASH_ENTRY, EXTENSION_ENTRY), (4, 5));
+    assert_eq!((DERIVE_ENTRY, REMEASURE_ENTRY), (6, 7));
+    assert_eq!((ROTATE_ENTRY, DESTROY_ENTRY), (8, 9));
     assert_eq!((number::KIND, number::GROUPS, number::CUT), (20, 21, 22));
     assert_eq!((number::ENTRY_BUFFER, number::UNCOUNTED), (23, 24));
     assert_eq!((IMAGE_BYTES, JOURNAL_BYTES), (6_080, 4_294_967_296));

@@ -172,13 +172,14 @@ fn the_book_has_all_nodes() {
             verdict: 0,
             table: vec![],
             bytes: sealed(STASH, &[5; 56]),
+            fresh: Vec::new(),
         }));
         play(Op::Store(STASH_STORES as u32));
     }
     play(Op::Update(BOOTED_WITH.into(), 1));
     play(Op::Store(UPDATE_STORES as u32));
     assert_eq!(player.seen.looks, 1);
-    let expected = [DPE_DONE, DPE_FULL];
+    let expected = [(STASH, DPE_DONE), (STASH, DPE_FULL)];
     assert!(player.seen.dpe_results.iter().eq(&expected));
     let image = player.image();
     assert!((0..NODES).all(|index| Paper.is_used(image, index)));

@@ -12,6 +12,7 @@ use reference::journal::read::{Bytes, Reads};
 use reference::layout::*;
 use reference::mailbox::booted;
 use reference::requests::{Extension, Request, Stash};
+use reference::tree::{Act, TreeCall};
 use reference::work::Work;
 use std::collections::{BTreeMap, BTreeSet};
 
@@ -135,11 +136,121 @@ fn orders_that_cannot_be() {
     assert_eq!(found(&anew)[..13], verdict(2));
 }
 
+/// A handle of its own.
+const A: [u8; 20] = [0xA1; 20];
+const B: [u8; 20] = [0xB2; 20];
+
+/// The root's children and what is done with them, of caller 0, by hand.
+fn derive(handle: &[u8], retain: &[u8], fresh: &[u8]) -> Vec<u8> {
+    let parts = [
+        &[6][..],
+        handle,
+        retain,
+        &[0xAC, 0x02],
+        &[0x88; 48],
+        fresh,
+        &[0],
+    ];
+    parts.concat()
+}
+
+fn extend(handle: &[u8]) -> Vec<u8> {
+    [&[7][..], handle, &[0x99; 48], &[0]].concat()
+}
+
+fn rotate(handle: &[u8], fresh: &[u8]) -> Vec<u8> {
+    [&[8][..], handle, fresh, &[0]].concat()
+}
+
+fn destroy(handle: &[u8]) -> Vec<u8> {
+    [&[9][..], handle, &[0]].concat()
+}
+
+/// What a unit would decline is 24, each ground by itself.
+#[test]
+fn tree_commands_that_cannot_be() {
+    let (default, retired) = ([0; 20], [0xFF; 20]);
+    let child = derive(&default, &[1], &A);
+    let before = [cold(), child.clone()].concat();
+    let after = |bytes: &[u8]| found(&[&before, bytes].concat());
+    let at = before.len() as u64;
+    for fine in [
+        derive(&A, &[1], &B),
+        derive(&A, &[0], &B),
+        derive(&default, &[0], &B),
+        extend(&A),
+        rotate(&A, &B),
+        rotate(&default, &B),
+        destroy(&A),
+        [destroy(&A), child.clone()].concat(),
+        [derive(&A, &[0], &B), destroy(&B), child.clone()].concat(),
+        [rotate(&default, &B), derive(&B, &[1], &[7; 20])].concat(),
+    ] {
+        assert_eq!(after(&fine)[..12], [0; 12], "{fine:02x?}");
+    }
+    for declined in [
+        // 6
+        derive(&B, &[1], &[7; 20]),
+        extend(&retired),
+        rotate(&B, &[7; 20]),
+        destroy(&retired),
+        // 8
+        derive(&A, &[1], &default),
+        derive(&A, &[1], &retired),
+        derive(&A, &[1], &A),
+        rotate(&A, &A),
+        rotate(&A, &default),
+        // 9 and 10
+        extend(&default),
+        destroy(&default),
+        // Retain above 1.
+        derive(&A, &[2], &B),
+        derive(&A, &[0x80, 1], &B),
+        derive(&A, &[0xFF, 0xFF, 0xFF, 0xFF, 0x0F], &B),
+    ] {
+        assert_eq!(after(&declined), refused(24, at), "{declined:02x?}");
+        let cut = &declined[..declined.len() - 1];
+        assert_eq!(after(cut), refused(22, at), "{declined:02x?}");
+    }
+    // 7
+    for mut other in [
+        derive(&A, &[1], &B),
+        extend(&A),
+        rotate(&A, &B),
+        destroy(&A),
+    ] {
+        *other.last_mut().expect("a caller") = 1;
+        assert_eq!(after(&other), refused(24, at));
+    }
+    assert_eq!(after(&derive(&A, &[0x80, 0], &B)), refused(21, at));
+    assert_eq!(after(&derive(&A, &[0x81, 0], &B)), refused(21, at));
+    // 2, and before a cold boot.
+    let off = [before.clone(), vec![3]].concat();
+    assert_eq!(found(&[off, extend(&A)].concat()), refused(24, at + 1));
+    assert_eq!(found(&child), refused(24, 0));
+    // 10: node A has a child.
+    let deep = [before.clone(), derive(&A, &[1], &B)].concat();
+    let journal = [&deep[..], &destroy(&A)].concat();
+    assert_eq!(found(&journal), refused(24, deep.len() as u64));
+    // 1
+    let full = (1..=31).map(|number| derive(&default, &[1], &[number; 20]));
+    let full = [cold(), full.collect::<Vec<_>>().concat()].concat();
+    assert_eq!(found(&full)[..13], verdict(2));
+    let more = [full.clone(), derive(&default, &[1], &A)].concat();
+    assert_eq!(found(&more), refused(24, full.len() as u64));
+    // 3: no holder of the default handle.
+    let unheld = [before.clone(), rotate(&default, &B)].concat();
+    let journal = [unheld.clone(), stash()].concat();
+    assert_eq!(found(&journal), refused(24, unheld.len() as u64));
+    let anew = [unheld, cold(), stash()].concat();
+    assert_eq!(found(&anew)[..13], verdict(2));
+}
+
 /// 20, 21 and 22, decided by the first byte that no entry could have there.
 #[test]
 fn faults_of_form() {
     let after_boot = |bytes: &[u8]| found(&[&cold(), bytes].concat());
-    for kind in [0, 6, 9, 0x81, 0xFF] {
+    for kind in [0, 10, 16, 0x81, 0x86, 0xFF] {
         assert_eq!(found(&[kind]), refused(20, 0));
         assert_eq!(after_boot(&[kind, 4, 4]), refused(20, 97));
     }
@@ -164,6 +275,10 @@ fn faults_of_form() {
         (update(), 97),
         (stash(), 97),
         (extension(9), 97),
+        (derive(&[0; 20], &[1], &A), 97),
+        (extend(&A), 97),
+        (rotate(&A, &B), 97),
+        (destroy(&A), 97),
     ] {
         let before = &cold()[..from];
         for end in 1..entry.len() {
@@ -262,6 +377,7 @@ fn entries_by_hand() {
 fn what_is_written_is_read() {
     let number = |bit: u32| (1u64 << bit) as u32;
     for bit in 0..=32 {
+        let tree = |act: Act| Event::Tree(TreeCall::new(A, act, &B, number(bit)));
         let events = [
             Event::Stash(Stash {
                 kind: number(bit),
@@ -274,6 +390,16 @@ fn what_is_written_is_read() {
                 digest: [0x80 | bit as u8; 48],
             }),
             Event::DisableCommand,
+            tree(Act::Derive {
+                retain: number(bit),
+                kind: !number(bit),
+                digest: [bit as u8; 48],
+            }),
+            tree(Act::Extend {
+                digest: [!bit as u8; 48],
+            }),
+            tree(Act::Rotate),
+            tree(Act::Destroy),
         ];
         let journal: Vec<u8> = events.iter().flat_map(Event::entry).collect();
         let mut bytes = Bytes::new(&journal[..]);
@@ -338,7 +464,7 @@ fn the_inputs_hold_every_number_and_verdict() {
         *found.entry(key).or_insert(0) += 1;
     }
     // As docs/TESTING.md says.
-    assert_eq!(inputs.len(), 13_574);
+    assert_eq!(inputs.len(), 19_452);
     let at_least = [
         ((0, Some(0)), 10),
         ((0, Some(1)), 500),
@@ -357,7 +483,7 @@ fn the_inputs_hold_every_number_and_verdict() {
     for (key, least) in at_least {
         assert!(found[&key] >= least, "{key:?} {}", found[&key]);
     }
-    assert_eq!(names.len(), 15, "{names:?}");
+    assert_eq!(names.len(), 16, "{names:?}");
 }
 
 #[test]

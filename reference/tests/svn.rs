@@ -177,6 +177,7 @@ fn request(svn: u32) -> Op {
         verdict: 0,
         table: vec![],
         bytes: bytes(svn.to_le_bytes()),
+        fresh: Vec::new(),
     })
 }
 

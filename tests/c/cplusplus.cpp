@@ -44,12 +44,19 @@ int main()
     check(stores == image.size() + 1, "stores of a cold boot: every word, and the mark twice");
     std::array<std::uint8_t, WAGGLELOFT_ENTRY_LONGEST> entry{};
     std::size_t told = 0;
-    check(waggleloft_entry(work.data(), work.size(), entry.data(), entry.size(), &told) == WAGGLELOFT_OK && told == entry.size() &&
+    check(waggleloft_entry(work.data(), work.size(), entry.data(), entry.size(), &told) == WAGGLELOFT_OK && told == 97 &&
               entry[0] == 1 && std::memcmp(entry.data() + 1, runtime.data(), runtime.size()) == 0, "the entry of a cold boot");
-    check(waggleloft_entry(work.data(), work.size(), entry.data(), entry.size() - 1, &told) == WAGGLELOFT_SHORT_FOR_ENTRY, "no room for it");
+    check(waggleloft_entry(work.data(), work.size(), entry.data(), told - 1, &told) == WAGGLELOFT_SHORT_FOR_ENTRY, "no room for it");
     check(image[WAGGLELOFT_NODES_AT] == 0x00FF0001 && image[WAGGLELOFT_NODES_AT + WAGGLELOFT_NODE_SVN] == 0, "the root and its svn");
+    /* The root's handle rotated: checksum, size 21, command 3, the default handle. */
+    std::array<std::uint8_t, 8 + 1 + WAGGLELOFT_HANDLE_BYTES> rotate{0xCC, 0xFE, 0xFF, 0xFF, 21, 0, 0, 0, WAGGLELOFT_TREE_ROTATE};
+    std::array<std::uint8_t, WAGGLELOFT_HANDLE_BYTES> fresh{};
+    fresh.fill(0xA5);
+    check(waggleloft_open_request(image.data(), image.size(), WAGGLELOFT_INVOKE_DPE_COMMAND, rotate.data(), rotate.size(), 0, none.data(), 0,
+                                  false, fresh.data(), fresh.size(), work.data(), work.size()) == WAGGLELOFT_OK &&
+              waggleloft_left(work.data(), work.size()) == 7, "a rotate");
     check(waggleloft_open_request(image.data(), image.size(), WAGGLELOFT_DISABLE_ATTESTATION, disable.data(), disable.size(), 0,
-                                  none.data(), 0, false, work.data(), work.size()) == WAGGLELOFT_OK, "disable");
+                                  none.data(), 0, false, none.data(), 0, work.data(), work.size()) == WAGGLELOFT_OK, "disable");
     check(waggleloft_left(work.data(), work.size()) == 15, "stores of a disabling");
     check(waggleloft_answer(work.data(), work.size(), answer.data(), answer.size(), &written) == WAGGLELOFT_STORES_LEFT && written == 99, "no answer yet");
     check(waggleloft_open_update_boot(image.data(), image.size(), runtime.data(), runtime.size(), manifest.data(), manifest.size(),

@@ -1,11 +1,12 @@
 /*
- * Calls the engine of include/waggleloft.h from C: every cut of a stash and of an
- * extension, every refusal, what a boot, a stash and an extension measure, the
- * nodes' svn, lists of every node, journal entries of every kind of work, works of
- * other lengths, and works with damaged words. What a store has to do is computed here from a table of the kinds of work
- * (KINDS), not asked of the engine. Every buffer is on the heap with its exact
- * length, so that valgrind sees a byte too many. Prints a line for each check that
- * failed and, last, 'N passed, M failed'.
+ * Calls the engine of include/waggleloft.h from C: every store of every kind of work,
+ * every cut of a request's, every refusal, what a boot, a stash and an extension
+ * measure, the nodes' svn, lists of every node, commands to the tree, journal entries
+ * of every kind of work, works of other lengths, and works with damaged words. What a
+ * store has to do is computed here from a table of the kinds of work (KINDS), not
+ * asked of the engine. Every buffer is on the heap with its exact length, so that
+ * valgrind sees a byte too many. Prints a line for each check that failed and, last,
+ * 'N passed, M failed'.
  */
 #include "waggleloft.h"
 
@@ -34,7 +35,7 @@ enum { KIND_IN = 0, FIRST_IN = 1, SECOND_IN = 3, POSITION_IN = 5, LENGTH_IN = 7,
 #define NODE(index) (WAGGLELOFT_NODES_AT + NODE_WORDS * (index))
 
 /* Words of a node. */
-enum { HANDLE = 2, CURRENT = WAGGLELOFT_NODE_CURRENT, CUMULATIVE = 20, TYPE = WAGGLELOFT_NODE_TYPE,
+enum { HANDLE = WAGGLELOFT_NODE_HANDLE, CURRENT = WAGGLELOFT_NODE_CURRENT, CUMULATIVE = 20, TYPE = WAGGLELOFT_NODE_TYPE,
        LOCALITY = WAGGLELOFT_NODE_LOCALITY, SVN = WAGGLELOFT_NODE_SVN };
 
 /* The first word of a used node that hangs on that one; the root names no node. */
@@ -42,18 +43,22 @@ enum { HANDLE = 2, CURRENT = WAGGLELOFT_NODE_CURRENT, CUMULATIVE = 20, TYPE = WA
 #define NO_PARENT 0xFF
 
 /* Stores of each kind of work, as the papers give them. */
-enum { DISABLING_STORES = 15, STASH_STORES = 54, UPDATE_STORES = 62, COLD_STORES = 1521, EXTENSION_STORES = 14 };
+enum { DISABLING_STORES = 15, STASH_STORES = 54, UPDATE_STORES = 62, COLD_STORES = 1521, EXTENSION_STORES = 14,
+       RETAINING_STORES = 37, RETIRING_STORES = 42, EXTEND_STORES = 26, ROTATE_STORES = 7 };
+#define DESTROY_STORES(freed) (2 + 35 * (freed))
 
 /* ---- the kinds of work ---- */
 
 /*
  * A run of stores: how many; the first word of it, to which comes `each` times the work's number at `by`
- * (0: no number of it); where its values stand in the work (0: each is `value`).
+ * (0: no number of it); where its values stand in the work (0: each is `value`). A run that frees is so long for each
+ * of the nodes that the work's first number counts; the node's words are their indices.
  */
 struct run {
     uint64_t stores, at, each;
     size_t by, from;
     uint32_t value;
+    bool frees;
 };
 
 /* What a number of the work may be. */
@@ -61,7 +66,7 @@ struct bounds {
     uint64_t least, most;
 };
 
-/* A kind of work: its stores, what its two numbers may be, how it is opened on a unit that is on, its runs. */
+/* A kind of work: its stores, what its two numbers may be, how it is opened on a unit that is on, its runs. A destroy is opened on one node. */
 struct kind {
     const char *name;
     size_t stores;
@@ -70,24 +75,27 @@ struct kind {
     struct run runs[12];
 };
 
-static bool open_kept(void), open_disabling(void), open_stash(void), open_update(void), open_cold(void), open_extension(void);
+static bool open_kept(void), open_disabling(void), open_stash(void), open_update(void), open_cold(void), open_extension(void),
+    open_derive(void), open_replace(void), open_extend(void), open_rotate(void), open_destroy(void);
 
 #define ANY {0, UINT64_MAX}
 #define A_NODE {0, NODES - 1}
-#define SAME(stores, at, value) {stores, at, 0, 0, 0, value}
-#define COPY(stores, at, from) {stores, at, 0, 0, from, 0}
-#define INTO(stores, word, by) {stores, NODE(0) + (word), NODE_WORDS, by, NODE_IN + (word), 0}
+#define SAME(stores, at, value) {stores, at, 0, 0, 0, value, false}
+#define COPY(stores, at, from) {stores, at, 0, 0, from, 0, false}
+#define INTO(stores, word, by) {stores, NODE(0) + (word), NODE_WORDS, by, NODE_IN + (word), 0, false}
+#define RETIRE(by) {5, NODE(0) + HANDLE, NODE_WORDS, by, 0, UINT32_MAX, false}
+#define FREE {NODE_WORDS, NODE(0), 0, 0, 0, 0, true}
 #define BEGIN SAME(1, 0, 0)
 #define END SAME(1, 0, 1)
 
 /* The one place that knows the kinds, each at its number. */
-enum { NOTHING, DISABLING, STASH, UPDATE, COLD, EXTENSION, NO_KIND };
+enum { NOTHING, DISABLING, STASH, UPDATE, COLD, EXTENSION, DERIVE, REPLACE, EXTEND, ROTATE, DESTROY, NO_KIND };
 static const struct kind KINDS[NO_KIND] = {
     [NOTHING] = {"a kept boot", 0, ANY, ANY, open_kept, {SAME(0, 0, 0)}},
     [DISABLING] = {"a disabling", DISABLING_STORES, ANY, ANY, open_disabling, {BEGIN, SAME(1, 1, 0), SAME(12, 4, 0), END}},
     [STASH] = {"a stash", STASH_STORES, A_NODE, A_NODE, open_stash,
                {BEGIN, COPY(12, PCR(31), REGISTER_IN), INTO(NODE_WORDS, 0, FIRST_IN),
-                {5, NODE(0) + HANDLE, NODE_WORDS, SECOND_IN, 0, UINT32_MAX}, END}},
+                RETIRE(SECOND_IN), END}},
     [UPDATE] = {"an update", UPDATE_STORES, A_NODE, ANY, open_update,
                 {BEGIN, COPY(12, PCR(2), REGISTER_IN), COPY(12, PCR(3), JOURNEY_IN), COPY(12, 4, SECRET_IN),
                  INTO(12, CURRENT, FIRST_IN), INTO(12, CUMULATIVE, FIRST_IN), END}},
@@ -96,23 +104,33 @@ static const struct kind KINDS[NO_KIND] = {
                COPY(12, PCR(3), JOURNEY_IN), SAME(336, PCR(4), 0), COPY(NODE_WORDS, NODE(0), NODE_IN),
                SAME(NODE_WORDS * (NODES - 1), NODE(1), 0), END}},
     [EXTENSION] = {"an extension", EXTENSION_STORES, {4, 30}, ANY, open_extension,
-                   {BEGIN, {12, PCR(0), 12, FIRST_IN, REGISTER_IN, 0}, END}},
+                   {BEGIN, {12, PCR(0), 12, FIRST_IN, REGISTER_IN, 0, false}, END}},
+    [DERIVE] = {"a derive", RETAINING_STORES, A_NODE, ANY, open_derive, {BEGIN, INTO(NODE_WORDS, 0, FIRST_IN), END}},
+    [REPLACE] = {"a derive without retain", RETIRING_STORES, A_NODE, A_NODE, open_replace,
+                 {BEGIN, INTO(NODE_WORDS, 0, FIRST_IN), RETIRE(SECOND_IN), END}},
+    [EXTEND] = {"an extend", EXTEND_STORES, A_NODE, ANY, open_extend, {BEGIN, INTO(24, CURRENT, FIRST_IN), END}},
+    [ROTATE] = {"a rotate", ROTATE_STORES, A_NODE, ANY, open_rotate, {BEGIN, INTO(5, HANDLE, FIRST_IN), END}},
+    [DESTROY] = {"a destroy", DESTROY_STORES(1), {0, NODES}, ANY, open_destroy, {BEGIN, FREE, END}},
 };
 
-/* The works of requests that leave attestation on: the answer's bytes, and a word that is 0 until the work has counted. */
+/* Every kind, in an order in which one can be opened after the other; the disabling last, as it switches off. */
+static const uint32_t ORDER[NO_KIND] = {COLD, STASH, EXTENSION, DERIVE, EXTEND, ROTATE, DESTROY, REPLACE, UPDATE, NOTHING, DISABLING};
+
+/* The works of requests that leave attestation on: the answer's bytes, and a word that stays until the work has counted. */
 #define EXTENDED 17
 static const struct {
     uint32_t kind;
     size_t answer, shown;
-} ANSWERED[] = {{STASH, 12, NODE(1)}, {EXTENSION, 8, PCR(EXTENDED)}};
+} ANSWERED[] = {{STASH, 12, NODE(1)}, {EXTENSION, 8, PCR(EXTENDED)}, {DERIVE, 12, NODE(1)}, {EXTEND, 12, NODE(1) + CURRENT},
+                {ROTATE, 12, NODE(1) + HANDLE + 4}, {DESTROY, 12, NODE(1)}, {REPLACE, 12, NODE(2)}};
 
-/* Each command's code and its request's bytes. */
+/* Each command's code and its request's bytes; of one to the tree, those of a rotate. */
 static const struct {
     uint32_t code;
     size_t len;
 } COMMANDS[] = {{WAGGLELOFT_STASH_MEASUREMENT, 60}, {WAGGLELOFT_DISABLE_ATTESTATION, 4}, {WAGGLELOFT_IDENTITY_KEY, 4},
-                {WAGGLELOFT_VERIFY_SIGNATURE, 196}, {WAGGLELOFT_EXTEND_PCR, 56}};
-#define LONGEST_REQUEST 196
+                {WAGGLELOFT_VERIFY_SIGNATURE, 196}, {WAGGLELOFT_EXTEND_PCR, 56}, {WAGGLELOFT_INVOKE_DPE_COMMAND, 29}};
+#define LONGEST_REQUEST (8 + WAGGLELOFT_DPE_DATA_LONGEST + 1)
 
 #define COUNT(array) (sizeof(array) / sizeof *(array))
 
@@ -134,6 +152,10 @@ static void *lent(size_t n, size_t size)
 static uint32_t *image, *image_before, *work, *work_before;
 static uint8_t *runtime, *manifest, *secret, *request, *buffer, *buffer_before, *none;
 static uint32_t caller = 7;
+
+/* The fresh handle that is lent with a request. */
+static uint8_t *lent_handle;
+static size_t lent_len;
 
 static void remember(void)
 {
@@ -170,7 +192,8 @@ static uint32_t ask_as_is(uint32_t code, size_t len, const uint8_t *handoff, siz
 {
     uint8_t *bytes = lent(len, 1);
     memcpy(bytes, request, len < LONGEST_REQUEST ? len : LONGEST_REQUEST);
-    uint32_t number = waggleloft_open_request(image, IMAGE, code, bytes, len, caller, handoff, handoff_len, verdict, work, WORK);
+    uint32_t number = waggleloft_open_request(image, IMAGE, code, bytes, len, caller, handoff, handoff_len, verdict, lent_handle, lent_len,
+                                              work, WORK);
     free(bytes);
     return number;
 }
@@ -183,12 +206,21 @@ static uint32_t ask_with(uint32_t code, size_t len, const uint8_t *handoff, size
 
 static uint32_t ask(uint32_t code, size_t len) { return ask_with(code, len, none, 0, false); }
 
+static bool request_refused(uint32_t code, size_t len, uint32_t number)
+{
+    remember();
+    return ask_as_is(code, len, none, 0, false) == number && image_same() && work_same();
+}
+
 /* Extends a register by the digest that stands in the request. */
 static uint32_t extend(uint32_t number)
 {
     put_number(4, number);
     return ask(WAGGLELOFT_EXTEND_PCR, 56);
 }
+
+/* The fresh handles so far, since the cold boot. */
+static uint32_t handles;
 
 static size_t run(size_t most)
 {
@@ -198,10 +230,11 @@ static size_t run(size_t most)
     return made;
 }
 
-/* A unit after its cold boot. */
+/* A unit after its cold boot; its fresh handles begin anew. */
 static void fresh(void)
 {
     uint32_t outcome = 99;
+    handles = 0;
     if (cold_boot(&outcome) != WAGGLELOFT_OK || run(SIZE_MAX) != KINDS[COLD].stores)
         check(false, "a cold boot runs");
 }
@@ -231,30 +264,211 @@ static bool open_stash(void) { return ask(WAGGLELOFT_STASH_MEASUREMENT, 60) == W
 static bool open_disabling(void) { return ask(WAGGLELOFT_DISABLE_ATTESTATION, 4) == WAGGLELOFT_OK; }
 static bool open_extension(void) { return extend(EXTENDED) == WAGGLELOFT_OK; }
 
+/* ---- commands to the tree ---- */
+
+#define HANDLE_LEN WAGGLELOFT_HANDLE_BYTES
+static const uint8_t DEFAULT[HANDLE_LEN] = {0};
+static const uint8_t RETIRED[HANDLE_LEN] = {0xFF, 0xFF, 0xFF, 0xFF, 0xFF, 0xFF, 0xFF, 0xFF, 0xFF, 0xFF,
+                                            0xFF, 0xFF, 0xFF, 0xFF, 0xFF, 0xFF, 0xFF, 0xFF, 0xFF, 0xFF};
+
+/* The handle of the child that was derived last. */
+static uint8_t child[HANDLE_LEN];
+
+/* The bytes of the request, of a command to the tree. */
+static size_t request_len;
+
+static void append(const void *bytes, size_t len)
+{
+    memcpy(request + request_len, bytes, len);
+    request_len += len;
+}
+
+static void append_byte(uint32_t byte) { request[request_len++] = (uint8_t)(byte & 0xFFU); }
+
+/* Groups of seven bits, the lowest first. */
+static void append_number(uint32_t number)
+{
+    for (; number > 0x7F; number >>= 7)
+        append_byte((number & 0x7FU) | 0x80U);
+    append_byte(number);
+}
+
+/* Begins a command about the node with that handle. */
+static void command(uint32_t number, const uint8_t *handle)
+{
+    request_len = 8;
+    append_byte(number);
+    append(handle, HANDLE_LEN);
+}
+
+static void append_digest(uint8_t byte)
+{
+    memset(request + request_len, byte, DIGEST);
+    request_len += DIGEST;
+}
+
+static void derive_of(const uint8_t *handle, uint32_t retain, uint32_t type, uint8_t byte)
+{
+    command(WAGGLELOFT_TREE_DERIVE, handle);
+    append_number(retain);
+    append_number(type);
+    append_digest(byte);
+}
+
+static void extend_of(const uint8_t *handle, uint8_t byte)
+{
+    command(WAGGLELOFT_TREE_EXTEND, handle);
+    append_digest(byte);
+}
+
+/* Lends these bytes as the fresh handle. */
+static void lend(const uint8_t *bytes, size_t len)
+{
+    free(lent_handle);
+    lent_handle = lent(len, 1);
+    lent_len = len;
+    memcpy(lent_handle, bytes, len);
+}
+
+static void lend_nothing(void) { lend(none, 0); }
+
+/* Lends a handle that no node has had since the cold boot. */
+static void lend_fresh(void)
+{
+    uint8_t handle[HANDLE_LEN];
+    memset(handle, 0xA5, sizeof handle);
+    handles++;
+    handle[HANDLE_LEN - 1] = (uint8_t)(handles & 0xFFU);
+    lend(handle, sizeof handle);
+}
+
+/* Opens the command that stands in the request. */
+static uint32_t invoke(void)
+{
+    put_number(4, (uint32_t)(request_len - 8));
+    return ask(WAGGLELOFT_INVOKE_DPE_COMMAND, request_len);
+}
+
+/* The node that holds a handle; NODES if none does. */
+static uint32_t holder_of(const uint8_t *handle)
+{
+    for (uint32_t i = 0; i < NODES; i++)
+        if ((image[NODE(i)] & 0xFFFF) == 1 && memcmp(image + NODE(i) + HANDLE, handle, HANDLE_LEN) == 0)
+            return i;
+    return NODES;
+}
+
+/* Opens the command on behalf of the caller whose node has that handle. */
+static bool invoke_by(const uint8_t *handle)
+{
+    uint32_t index = holder_of(handle), before = caller;
+    if (index == NODES)
+        return false;
+    caller = image[NODE(index) + LOCALITY];
+    bool opened = invoke() == WAGGLELOFT_OK;
+    caller = before;
+    return opened;
+}
+
+/* And its fresh handle is the child's from then on. */
+static bool invoke_with_fresh(const uint8_t *handle)
+{
+    lend_fresh();
+    bool opened = invoke_by(handle);
+    memcpy(child, lent_handle, HANDLE_LEN);
+    return opened;
+}
+
+static bool open_derive(void)
+{
+    derive_of(DEFAULT, 1, UINT32_C(0x52554F48), 0x66);
+    return invoke_with_fresh(DEFAULT);
+}
+
+/* There is a child: the last one, or else one more. */
+static bool with_child(void) { return holder_of(child) != NODES || (open_derive() && run(SIZE_MAX) == RETAINING_STORES); }
+
+static bool open_replace(void)
+{
+    uint8_t parent[HANDLE_LEN];
+    bool there = with_child();
+    memcpy(parent, child, HANDLE_LEN);
+    derive_of(parent, 0, 300, 0x77);
+    return there && invoke_with_fresh(parent);
+}
+
+static bool open_extend(void)
+{
+    bool there = with_child();
+    extend_of(child, 0x88);
+    lend_nothing();
+    return there && invoke_by(child);
+}
+
+static bool open_rotate(void)
+{
+    uint8_t old[HANDLE_LEN];
+    bool there = with_child();
+    memcpy(old, child, HANDLE_LEN);
+    command(WAGGLELOFT_TREE_ROTATE, old);
+    return there && invoke_with_fresh(old);
+}
+
+static bool open_destroy(void)
+{
+    bool there = with_child();
+    command(WAGGLELOFT_TREE_DESTROY, child);
+    lend_nothing();
+    return there && invoke_by(child);
+}
+
 /* ---- what a store has to do, from the table of kinds ---- */
 
 static uint64_t two(size_t at) { return work_before[at] + ((uint64_t)work_before[at + 1] << 32); }
 
 static bool within(struct bounds bounds, uint64_t number) { return bounds.least <= number && number <= bounds.most; }
 
+static uint64_t stores_of(const struct run *run) { return run->frees ? run->stores * two(FIRST_IN) : run->stores; }
+
+/* All stores of the work, whose numbers are within their bounds. */
+static uint64_t stores_in_all(void)
+{
+    uint64_t sum = 0;
+    for (size_t i = 0; i < COUNT(KINDS[0].runs); i++)
+        sum += stores_of(&KINDS[work_before[KIND_IN]].runs[i]);
+    return sum;
+}
+
+/* No index of a destroy, of those that count, is beyond the nodes. */
+static bool freed_within(void)
+{
+    for (uint64_t i = 0; work_before[KIND_IN] == DESTROY && i < two(FIRST_IN); i++)
+        if (work_before[NODE_IN + i] >= NODES)
+            return false;
+    return true;
+}
+
 static bool well_shaped(void)
 {
     uint32_t kind = work_before[KIND_IN];
-    return kind < NO_KIND && within(KINDS[kind].first, two(FIRST_IN)) && within(KINDS[kind].second, two(SECOND_IN)) &&
-           two(LENGTH_IN) <= LONGEST && two(POSITION_IN) <= KINDS[kind].stores;
+    return kind < NO_KIND && within(KINDS[kind].first, two(FIRST_IN)) && within(KINDS[kind].second, two(SECOND_IN)) && freed_within() &&
+           two(LENGTH_IN) <= LONGEST && two(POSITION_IN) <= stores_in_all();
 }
 
-static uint64_t left(void) { return well_shaped() ? KINDS[work_before[KIND_IN]].stores - two(POSITION_IN) : 0; }
+static uint64_t left(void) { return well_shaped() ? stores_in_all() - two(POSITION_IN) : 0; }
 
 /* Makes the store in image_before and work_before. */
 static void expected_store(void)
 {
     uint64_t k = two(POSITION_IN), moved = k + 1;
     const struct run *run = KINDS[work_before[KIND_IN]].runs;
-    for (; k >= run->stores; run++)
-        k -= run->stores;
+    for (; k >= stores_of(run); run++)
+        k -= stores_of(run);
     uint64_t at = run->at + (run->by != 0 ? run->each * two(run->by) : 0);
-    image_before[at + k] = run->from != 0 ? work_before[run->from + k] : run->value;
+    if (run->frees)
+        image_before[NODE(work_before[NODE_IN + k / NODE_WORDS]) + k % NODE_WORDS] = 0;
+    else
+        image_before[at + k] = run->from != 0 ? work_before[run->from + k] : run->value;
     work_before[POSITION_IN] = (uint32_t)(moved & UINT32_MAX);
     work_before[POSITION_IN + 1] = (uint32_t)(moved >> 32);
 }
@@ -312,7 +526,10 @@ static bool cut_holds(size_t which, size_t cut)
     uint32_t outcome = 99;
     size_t written = 99, all = KINDS[ANSWERED[which].kind].stores;
     fresh();
-    if (!KINDS[ANSWERED[which].kind].open() || waggleloft_left(work, WORK) != all || run(cut) != cut)
+    if (!KINDS[ANSWERED[which].kind].open() || waggleloft_left(work, WORK) != all)
+        return false;
+    uint32_t uncounted = image[ANSWERED[which].shown];
+    if (run(cut) != cut)
         return false;
     uint32_t answered = waggleloft_answer(work, WORK, buffer, LONGEST, &written);
     if (cut == all ? answered != WAGGLELOFT_OK || written != ANSWERED[which].answer
@@ -322,7 +539,7 @@ static bool cut_holds(size_t which, size_t cut)
         return false;
     bool on = cut == 0 || cut == all;
     size_t stores = run(SIZE_MAX);
-    bool counted = image[ANSWERED[which].shown] != 0;
+    bool counted = image[ANSWERED[which].shown] != uncounted;
     return on ? outcome == WAGGLELOFT_UPDATED && stores == KINDS[UPDATE].stores && image[1] == 1 && !erased() && counted == (cut == all)
               : outcome == WAGGLELOFT_DISABLED && stores == KINDS[DISABLING].stores && image[1] == 0 && erased();
 }
@@ -337,16 +554,15 @@ static void check_cuts(void)
     }
 }
 
-/* Every store of every kind of work, one work after the other; the disabling last, as it switches off. */
+/* Every store of every kind of work, one work after the other. */
 static void check_stores(void)
 {
-    static const uint32_t order[] = {COLD, STASH, EXTENSION, UPDATE, NOTHING, DISABLING};
     fill_words(image, IMAGE);
-    for (size_t k = 0; k < COUNT(order); k++) {
-        bool all = KINDS[order[k]].open() && work[KIND_IN] == order[k];
-        for (size_t i = 0; i <= KINDS[order[k]].stores; i++)
+    for (size_t k = 0; k < NO_KIND; k++) {
+        bool all = KINDS[ORDER[k]].open() && work[KIND_IN] == ORDER[k];
+        for (size_t i = 0; i <= KINDS[ORDER[k]].stores; i++)
             all = store_holds() && all;
-        check_kind(all, "every store of", order[k]);
+        check_kind(all, "every store of", ORDER[k]);
     }
 }
 
@@ -405,6 +621,8 @@ static void check_answer_bytes(void)
     memcpy(key + 8, handoff + 304, 96);
     fresh();
     check(open_stash() && answers(zeros, 12), "an accepted stash's answer");
+    check(open_derive() && answers(zeros, 12) && open_extend() && answers(zeros, 12) && open_rotate() && answers(zeros, 12) &&
+              open_destroy() && answers(zeros, 12), "the answer of each command to the tree");
     check(open_extension() && answers(zeros, 8), "an extension's answer");
     check(ask_with(WAGGLELOFT_IDENTITY_KEY, 4, handoff, sizeof handoff, false) == WAGGLELOFT_OK && answers(key, LONGEST),
           "an identity key's answer");
@@ -429,7 +647,7 @@ static bool work_refused(size_t len)
     all = all && waggleloft_entry(words, len, buffer, LONGEST, &written) == WAGGLELOFT_WRONG_WORK;
     all = all && waggleloft_open_cold_boot(image, IMAGE, runtime, DIGEST, none, 0, secret, DIGEST, words, len, &outcome) == WAGGLELOFT_WRONG_WORK;
     all = all && waggleloft_open_update_boot(image, IMAGE, runtime, DIGEST, none, 0, secret, DIGEST, true, words, len, &outcome) == WAGGLELOFT_WRONG_WORK;
-    all = all && waggleloft_open_request(image, IMAGE, WAGGLELOFT_DISABLE_ATTESTATION, request, 4, 7, none, 0, false, words, len) == WAGGLELOFT_WRONG_WORK;
+    all = all && waggleloft_open_request(image, IMAGE, WAGGLELOFT_DISABLE_ATTESTATION, request, 4, 7, none, 0, false, none, 0, words, len) == WAGGLELOFT_WRONG_WORK;
     all = all && image_same() && buffer_same() && outcome == 99 && written == 99 && memcmp(words, before, len * sizeof *words) == 0;
     free(words);
     free(before);
@@ -462,7 +680,7 @@ static bool image_refused(size_t len)
     bool all = waggleloft_store(work, WORK, words, len) == WAGGLELOFT_WRONG_IMAGE;
     all = all && waggleloft_open_cold_boot(words, len, runtime, DIGEST, none, 0, secret, DIGEST, work, WORK, &outcome) == WAGGLELOFT_WRONG_IMAGE;
     all = all && waggleloft_open_update_boot(words, len, runtime, DIGEST, none, 0, secret, DIGEST, true, work, WORK, &outcome) == WAGGLELOFT_WRONG_IMAGE;
-    all = all && waggleloft_open_request(words, len, WAGGLELOFT_DISABLE_ATTESTATION, request, 4, 7, none, 0, false, work, WORK) == WAGGLELOFT_WRONG_IMAGE;
+    all = all && waggleloft_open_request(words, len, WAGGLELOFT_DISABLE_ATTESTATION, request, 4, 7, none, 0, false, none, 0, work, WORK) == WAGGLELOFT_WRONG_IMAGE;
     all = all && work_same() && outcome == 99 && memcmp(words, before, len * sizeof *words) == 0;
     free(words);
     free(before);
@@ -778,7 +996,7 @@ static void check_order_of_extension(void)
         uint8_t *bytes = lent(len, 1);
         memcpy(bytes, request, len);
         remember();
-        all = all && waggleloft_open_request(image, words, code, bytes, len, 7, none, 0, false, work, WORK) == order[i];
+        all = all && waggleloft_open_request(image, words, code, bytes, len, 7, none, 0, false, none, 0, work, WORK) == order[i];
         all = all && image_same() && work_same() == (order[i] != WAGGLELOFT_OK);
         free(bytes);
         switch (order[i]) {
@@ -888,7 +1106,7 @@ static void check_moved_registers(void)
 /* Numbers that no kind has. */
 static void check_no_kinds(void)
 {
-    static const uint32_t kinds[] = {6, 7, 0xFF, 0x105, 0x80000005, UINT32_MAX};
+    static const uint32_t kinds[] = {NO_KIND, NO_KIND + 1, 0xFF, 0x105, 0x80000005, UINT32_MAX};
     static const size_t made[] = {0, 7, 14};
     bool all = true;
     for (size_t i = 0; i < COUNT(kinds); i++) {
@@ -898,7 +1116,7 @@ static void check_no_kinds(void)
             all = damaged() && all;
         }
     }
-    check(all, "6 and above are no kinds: 0 left, 9 and 7");
+    check(all, "11 and above are no kinds: 0 left, 9 and 7");
 }
 
 /* ---- the svn of a node ---- */
@@ -1117,6 +1335,10 @@ static void check_mirrored(void)
               work[FIRST_IN] == NODES - 1 && full(),
           "the root at the last node, each parent the next higher: an update renews the root there");
     check(mirrored(NODES - 1, STASH) && image[NODE(0)] == USED_ON(1), "and a stash takes node 0, the free one");
+    check(mirrored(NODES - 1, DERIVE) && image[NODE(0)] == USED_ON(1) && work[FIRST_IN] == 0, "so does a derive");
+    check(mirrored(NODES - 1, EXTEND) && work[FIRST_IN] == 0 && mirrored(NODES - 1, ROTATE) && work[FIRST_IN] == 0 &&
+              mirrored(NODES - 1, DESTROY) && work[NODE_IN] == 0 && image[NODE(0)] == 0,
+          "where it is extended, rotated and destroyed");
 }
 
 /* Node `index` of the list in hand hangs on `parent`: not well formed; then it is as before. */
@@ -1150,6 +1372,462 @@ static void check_wrong_ways(void)
     bool all = filled(NODES);
     image[NODE(NODES - 1)] = USED_ON(NODES);
     check(all && switches_off(), "and so on a parent past the last node");
+}
+
+/* ---- the tree ---- */
+
+/* All stores of a command on behalf of the caller whose node has that handle; SIZE_MAX if it is not opened. */
+static size_t served(const uint8_t *handle) { return invoke_by(handle) ? run(SIZE_MAX) : SIZE_MAX; }
+
+/* The command that stands in the request is declined with that dpe result, and nothing is stored. */
+static bool declined(uint32_t result)
+{
+    uint8_t expected[12] = {0};
+    expected[8] = (uint8_t)result;
+    for (size_t i = 0; i < 4; i++)
+        expected[i] = (uint8_t)((0 - result) >> (8 * i) & 0xFFU);
+    remember();
+    return invoke() == WAGGLELOFT_OK && waggleloft_left(work, WORK) == 0 && answers(expected, sizeof expected) && image_same();
+}
+
+/* The words of a work just opened that has the node's words and the inputs alone. */
+static void expect_words(uint32_t kind, uint32_t first, uint32_t second, const uint32_t *node, uint8_t digest, const uint8_t *handle)
+{
+    memset(work_before, 0, WORK * sizeof *work);
+    work_before[KIND_IN] = kind;
+    work_before[FIRST_IN] = first;
+    work_before[SECOND_IN] = second;
+    work_before[LENGTH_IN] = 12;
+    memcpy(work_before + NODE_IN, node, NODE_WORDS * sizeof *node);
+    memset(work_before + INPUTS_IN, digest, DIGEST);
+    memcpy(work_before + INPUTS_IN + DIGEST / 4, handle, HANDLE_LEN);
+    memcpy(work_before + INPUTS_IN + (DIGEST + HANDLE_LEN) / 4, lent_handle, lent_len);
+}
+
+/* A node below the root, with svn 0, derived by caller 0. */
+static void derived_node(uint32_t *node, const uint8_t *handle, uint32_t type, uint8_t byte, const char *cumulative)
+{
+    remember();
+    put_digest(0, cumulative);
+    memset(node, 0, NODE_WORDS * sizeof *node);
+    node[0] = USED_ON(0);
+    memcpy(node + HANDLE, handle, HANDLE_LEN);
+    memset(node + CURRENT, byte, DIGEST);
+    memcpy(node + CUMULATIVE, image, DIGEST);
+    node[TYPE] = type;
+    memcpy(image, image_before, IMAGE * sizeof *image);
+}
+
+static void check_words_of_tree(void)
+{
+    uint32_t node[NODE_WORDS] = {0}, other[NODE_WORDS] = {0};
+    uint8_t first[HANDLE_LEN];
+    fresh();
+    for (uint32_t retain = 0; retain <= 1; retain++) {
+        derive_of(DEFAULT, retain, 300, 0x66);
+        bool opened = invoke_with_fresh(DEFAULT);
+        derived_node(node, child, 300, 0x66, EXTENDED_ONCE);
+        expect_words(retain == 1 ? DERIVE : REPLACE, 1, 0, node, 0x66, DEFAULT);
+        check(opened && work_same(), retain == 1 ? "the words of a derive: kind 6, its node, the child, digest and handles"
+                                                 : "the words of a derive without retain: kind 7");
+    }
+    check(open_derive() && run(SIZE_MAX) == RETAINING_STORES, "a child");
+    memcpy(first, child, HANDLE_LEN);
+    extend_of(first, 0x77);
+    lend_nothing();
+    bool opened = invoke_by(first);
+    derived_node(other, DEFAULT, 0, 0x77, EXTENDED_TWICE);
+    other[0] = 0;
+    expect_words(EXTEND, 1, 0, other, 0x77, first);
+    check(opened && work_same(), "the words of an extend: kind 8, its node, both measurements");
+    opened = open_rotate();
+    memset(node, 0, sizeof node);
+    memcpy(node + HANDLE, child, HANDLE_LEN);
+    expect_words(ROTATE, 1, 0, node, 0, first);
+    check(opened && work_same(), "the words of a rotate: kind 9, its node, the fresh handle");
+    memcpy(child, first, HANDLE_LEN);
+    opened = open_destroy();
+    memset(node, 0, sizeof node);
+    node[0] = 1;
+    expect_words(DESTROY, 1, 0, node, 0, first);
+    check(opened && work_same(), "the words of a destroy: kind 10, how many nodes it frees, their indices");
+}
+
+/* What each command makes of the nodes, worked out by hand; PCR31 stays. */
+static void check_tree_nodes(void)
+{
+    uint32_t node[NODE_WORDS];
+    uint8_t first[HANDLE_LEN];
+    fresh();
+    derive_of(DEFAULT, 1, 300, 0x66);
+    bool all = invoke_with_fresh(DEFAULT);
+    memcpy(first, child, HANDLE_LEN);
+    derived_node(node, first, 300, 0x66, EXTENDED_ONCE);
+    remember();
+    memcpy(image_before + NODE(1), node, sizeof node);
+    check(all && run(SIZE_MAX) == RETAINING_STORES && image_same(), "a derive stores the child alone");
+    extend_of(first, 0x77);
+    derived_node(node, first, 300, 0x77, EXTENDED_TWICE);
+    all = invoke_by(first);
+    remember();
+    memcpy(image_before + NODE(1), node, sizeof node);
+    check(all && run(SIZE_MAX) == EXTEND_STORES && image_same(), "an extend its two measurements");
+    all = open_rotate();
+    remember();
+    memcpy(image_before + NODE(1) + HANDLE, child, HANDLE_LEN);
+    check(all && run(SIZE_MAX) == ROTATE_STORES && image_same(), "a rotate its handle");
+    command(WAGGLELOFT_TREE_DESTROY, first);
+    caller = 0;
+    check(declined(WAGGLELOFT_DPE_UNKNOWN_HANDLE), "and the old handle is nobody's");
+    caller = 7;
+    all = open_destroy();
+    remember();
+    memset(image_before + NODE(1), 0, sizeof node);
+    check(all && run(SIZE_MAX) == DESTROY_STORES(1) && image_same(), "a destroy frees it");
+    all = open_replace();
+    remember();
+    check(all && run(SIZE_MAX) == RETIRING_STORES && memcmp(image + NODE(1) + HANDLE, RETIRED, HANDLE_LEN) == 0 &&
+              image[NODE(2)] == USED_ON(1) && memcmp(image + PCR(31), image_before + PCR(31), DIGEST) == 0,
+          "a derive without retain retires the parent's handle, and PCR31 stays");
+}
+
+/* A cold boot and so many nodes below the root, each derived without retain below the one before. */
+static bool chained(uint32_t children)
+{
+    bool all = true;
+    fresh();
+    memcpy(child, DEFAULT, HANDLE_LEN);
+    for (uint32_t i = 0; i < children; i++)
+        all = open_replace() && run(SIZE_MAX) == RETIRING_STORES && all;
+    return all;
+}
+
+/* Destroying the end of a chain of every length: every store, from the end upwards; all but the root is free. */
+static void check_destroyed_chains(void)
+{
+    bool all = true;
+    for (uint32_t children = 1; children < NODES; children++) {
+        all = chained(children) && open_destroy() && waggleloft_left(work, WORK) == DESTROY_STORES(children) && all;
+        for (uint32_t i = 0; i < children; i++)
+            all = work[NODE_IN + i] == children - i && all;
+        for (size_t i = 0; i <= DESTROY_STORES(children); i++)
+            all = store_holds() && all;
+        for (size_t at = NODE(1); at < IMAGE; at++)
+            all = image[at] == 0 && all;
+        all = would(true, WAGGLELOFT_UPDATED) && all;
+    }
+    check(all, "a destroy frees a chain of every length, upwards, but not the root");
+    uint8_t no_holder[12] = {0xFD, 0xFF, 0xFF, 0xFF, 0, 0, 0, 0, WAGGLELOFT_DPE_NO_HOLDER};
+    check(open_stash() && answers(no_holder, sizeof no_holder), "and no handle is live: a stash gets 3");
+    caller = 0;
+    command(WAGGLELOFT_TREE_ROTATE, RETIRED);
+    check(declined(WAGGLELOFT_DPE_UNKNOWN_HANDLE), "and a command 6");
+    caller = 7;
+}
+
+/* Cuts of the longest destroy, of 31 nodes: each of its first and last stores, and some between. */
+static void check_cut_chain(void)
+{
+    bool all = true;
+    for (size_t cut = 0; cut <= DESTROY_STORES(NODES - 1); cut += cut < 40 || cut > DESTROY_STORES(NODES - 1) - 40 ? 1 : 13) {
+        bool on = cut == 0 || cut == DESTROY_STORES(NODES - 1);
+        all = chained(NODES - 1) && open_destroy() && run(cut) == cut && all;
+        all = would(true, on ? WAGGLELOFT_UPDATED : WAGGLELOFT_DISABLED) && all;
+        if (cut > DESTROY_STORES(NODES - 1) - 13 && cut < DESTROY_STORES(NODES - 1) - 1)
+            all = switches_off() && all;
+    }
+    check(all, "cuts of a destroy of 31 nodes");
+}
+
+/* It stops at a node that is live and at one with another child; freed nodes serve again, the lowest first. */
+static void check_stopped_destroys(void)
+{
+    uint8_t live[HANDLE_LEN], other[HANDLE_LEN];
+    bool all = chained(2);
+    memcpy(live, child, HANDLE_LEN);
+    derive_of(live, 1, 1, 0x66);
+    all = invoke_with_fresh(live) && run(SIZE_MAX) == RETAINING_STORES && all;
+    check(all && open_destroy() && run(SIZE_MAX) == DESTROY_STORES(1) && image[NODE(2)] == USED_ON(1), "a destroy stops at a live node");
+    derive_of(live, 1, 1, 0x66);
+    all = invoke_with_fresh(live) && run(SIZE_MAX) == RETAINING_STORES && image[NODE(3)] == USED_ON(2);
+    memcpy(other, child, HANDLE_LEN);
+    derive_of(live, 0, 1, 0x66);
+    all = invoke_with_fresh(live) && run(SIZE_MAX) == RETIRING_STORES && image[NODE(4)] == USED_ON(2) && all;
+    command(WAGGLELOFT_TREE_DESTROY, other);
+    check(all && served(other) == DESTROY_STORES(1) && image[NODE(2)] == USED_ON(1), "and at one with another child");
+    check(open_destroy() && run(SIZE_MAX) == DESTROY_STORES(3) && image[NODE(1)] == 0 && image[NODE(4)] == 0 && image[NODE(0)] == USED_ON(NO_PARENT),
+          "but the last one takes them along");
+}
+
+/* A cold boot and so many children of the root. */
+static bool starred(uint32_t children)
+{
+    bool all = true;
+    fresh();
+    for (uint32_t i = 0; i < children; i++)
+        all = open_derive() && run(SIZE_MAX) == RETAINING_STORES && all;
+    return all;
+}
+
+static void check_reuse(void)
+{
+    static const uint32_t freed[] = {20, 5, 31}, lowest[] = {5, 20, 31};
+    uint8_t handle[HANDLE_LEN];
+    bool all = starred(NODES - 1);
+    caller = 0;
+    derive_of(DEFAULT, 1, 1, 0x66);
+    lend_fresh();
+    check(all && declined(WAGGLELOFT_DPE_NO_FREE_NODE), "a derive with all nodes used gets 1");
+    for (size_t i = 0; i < COUNT(freed); i++) {
+        memcpy(handle, image + NODE(freed[i]) + HANDLE, HANDLE_LEN);
+        command(WAGGLELOFT_TREE_DESTROY, handle);
+        all = served(handle) == DESTROY_STORES(1) && image[NODE(freed[i])] == 0 && all;
+    }
+    for (size_t i = 0; i < COUNT(lowest); i++)
+        all = open_derive() && work[FIRST_IN] == lowest[i] && run(SIZE_MAX) == RETAINING_STORES && all;
+    check(all && would(true, WAGGLELOFT_UPDATED), "freed nodes serve again, the lowest first");
+    caller = 7;
+}
+
+/* A request with every fault; they are mended one after the other, and each time the next is told. */
+static void check_order_of_declines(void)
+{
+    uint8_t unknown[HANDLE_LEN];
+    bool all = starred(NODES - 1);
+    memset(unknown, 0x11, sizeof unknown);
+    uint32_t on = image[1], parent = image[NODE(31)];
+    image[1] = 0;
+    image[NODE(31)] = USED_ON(31);
+    derive_of(unknown, 1, 1, 0x66);
+    append_byte(0);
+    lend_nothing();
+    all = declined(WAGGLELOFT_DPE_OFF) && all;
+    image[1] = on;
+    remember();
+    all = invoke() == WAGGLELOFT_NOT_WELL_FORMED && image_same() && work_same() && all;
+    image[NODE(31)] = parent;
+    all = declined(WAGGLELOFT_DPE_WRONG_DATA) && all;
+    derive_of(unknown, 1, 1, 0x66);
+    all = declined(WAGGLELOFT_DPE_UNKNOWN_HANDLE) && all;
+    derive_of(child, 1, 1, 0x66);
+    all = declined(WAGGLELOFT_DPE_OTHER_CALLER) && all;
+    caller = 0;
+    all = declined(WAGGLELOFT_DPE_WRONG_FRESH) && all;
+    lend_fresh();
+    all = declined(WAGGLELOFT_DPE_NO_FREE_NODE) && all;
+    check(all, "the order of declines: 2, refusal 11, 5, 6, 7, 8, 1");
+    command(WAGGLELOFT_TREE_DESTROY, DEFAULT);
+    all = declined(WAGGLELOFT_DPE_ROOT);
+    extend_of(DEFAULT, 0x66);
+    check(declined(WAGGLELOFT_DPE_ROOT) && all, "the root is neither extended nor destroyed, with children or without");
+    fresh();
+    all = declined(WAGGLELOFT_DPE_ROOT);
+    command(WAGGLELOFT_TREE_DESTROY, DEFAULT);
+    check(declined(WAGGLELOFT_DPE_ROOT) && all, "nor a root alone");
+    all = starred(1);
+    derive_of(child, 1, 1, 0x66);
+    lend_fresh();
+    all = served(child) == RETAINING_STORES && all;
+    command(WAGGLELOFT_TREE_DESTROY, child);
+    check(all && declined(WAGGLELOFT_DPE_HAS_CHILDREN), "a node with children is not destroyed");
+    caller = 7;
+}
+
+/* A derive and a rotate with that fresh handle get 8. */
+static bool fresh_declined(const uint8_t *bytes, size_t len)
+{
+    lend(bytes, len);
+    derive_of(child, 1, 1, 0x66);
+    bool all = declined(WAGGLELOFT_DPE_WRONG_FRESH);
+    command(WAGGLELOFT_TREE_ROTATE, child);
+    return declined(WAGGLELOFT_DPE_WRONG_FRESH) && all;
+}
+
+static void check_fresh_handles(void)
+{
+    uint8_t bytes[64], used[HANDLE_LEN];
+    bool all = starred(2);
+    caller = 0;
+    memcpy(used, image + NODE(1) + HANDLE, HANDLE_LEN);
+    memset(bytes, 0x99, sizeof bytes);
+    for (size_t len = 0; len <= sizeof bytes; len++)
+        all = (len == HANDLE_LEN || fresh_declined(bytes, len)) && all;
+    check(all, "a fresh handle of every other length gets 8");
+    check(fresh_declined(DEFAULT, HANDLE_LEN) && fresh_declined(RETIRED, HANDLE_LEN), "so do the default and the retired one");
+    check(fresh_declined(used, HANDLE_LEN) && fresh_declined(child, HANDLE_LEN), "and one that is in use, by another node or by this one");
+    all = true;
+    for (size_t len = 0; len <= sizeof bytes; len++) {
+        all = starred(1) && all;
+        lend(bytes, len);
+        extend_of(child, 0x66);
+        all = served(child) == EXTEND_STORES && all;
+        lend(len == HANDLE_LEN ? RETIRED : bytes, len);
+        command(WAGGLELOFT_TREE_DESTROY, child);
+        all = served(child) == DESTROY_STORES(1) && all;
+    }
+    check(all, "an extend and a destroy take any");
+    all = starred(1);
+    for (size_t at = 0; at < HANDLE_LEN; at++) {
+        /* One byte away from the default handle, from the retired one and from the one in use. */
+        for (size_t k = 0; k < 3; k++) {
+            memcpy(bytes, k == 0 ? DEFAULT : k == 1 ? RETIRED : child, HANDLE_LEN);
+            bytes[at] ^= 0x10;
+            lend(bytes, HANDLE_LEN);
+            derive_of(DEFAULT, 1, 1, 0x66);
+            all = served(DEFAULT) == RETAINING_STORES && all;
+            command(WAGGLELOFT_TREE_DESTROY, bytes);
+            all = served(bytes) == DESTROY_STORES(1) && all;
+        }
+    }
+    check(all, "one byte makes another handle");
+    caller = 7;
+}
+
+/* The data of a derive with these bytes as its numbers gets 5. */
+static bool numbers_declined(const char *numbers, size_t len)
+{
+    command(WAGGLELOFT_TREE_DERIVE, child);
+    append(numbers, len);
+    append_digest(0x66);
+    return declined(WAGGLELOFT_DPE_WRONG_DATA);
+}
+
+static void check_malformed_data(void)
+{
+    bool (*const opens[])(void) = {open_derive, open_extend, open_rotate, open_destroy};
+    uint8_t first[HANDLE_LEN];
+    bool all = starred(1), commands = true;
+    memcpy(first, child, HANDLE_LEN);
+    for (size_t i = 0; i < COUNT(opens); i++) {
+        all = opens[i]() && all;
+        memcpy(child, first, HANDLE_LEN);
+        size_t whole = request_len;
+        caller = 0;
+        for (request_len = 8; request_len < whole; request_len++)
+            all = declined(WAGGLELOFT_DPE_WRONG_DATA) && all;
+        append_byte(0);
+        all = declined(WAGGLELOFT_DPE_WRONG_DATA) && all;
+        request_len = whole;
+        for (uint32_t number = 0; number <= 0xFF; number++) {
+            request[8] = (uint8_t)number;
+            commands = ((number >= 1 && number <= 4) || declined(WAGGLELOFT_DPE_WRONG_DATA)) && commands;
+        }
+        caller = 7;
+    }
+    caller = 0;
+    check(all, "data that is cut short anywhere, and a byte too many, get 5");
+    check(commands, "so do commands other than 1 to 4");
+    check(numbers_declined("\2\7", 2) && numbers_declined("\x80\1\7", 3), "so does a retain above 1");
+    check(numbers_declined("\x81\0\7", 3) && numbers_declined("\1\x87\0", 3), "so does a number in a longer form");
+    check(numbers_declined("\1\xFF\xFF\xFF\xFF\x10", 6) && numbers_declined("\1\xFF\xFF\xFF\xFF\x8F\0", 7), "so does one of more than 32 bits");
+    command(WAGGLELOFT_TREE_DERIVE, child);
+    append("\1\xFF\xFF\xFF\xFF\x0F", 6);
+    append_digest(0x66);
+    lend_fresh();
+    check(served(child) == RETAINING_STORES && image[NODE(2) + TYPE] == UINT32_MAX, "the largest type does not");
+    caller = 7;
+}
+
+/* The size and the request's length: 4, before the checksum. */
+static bool size_refused(uint32_t size, size_t len)
+{
+    put_number(4, size);
+    return request_refused(WAGGLELOFT_INVOKE_DPE_COMMAND, len, WAGGLELOFT_WRONG_LENGTH);
+}
+
+static void check_sizes_of_data(void)
+{
+    bool all = true;
+    fresh();
+    for (uint32_t size = 0; size <= 40; size++)
+        for (size_t len = 0; len <= 60; len++)
+            all = (len == 8 + size || size_refused(size, len)) && all;
+    check(all, "a request of another length than 8 and its data gets 4");
+    check(size_refused(1025, 1033) && size_refused(0x10000, 8) && size_refused(UINT32_MAX, 7) && size_refused(0x80000000, 8),
+          "so does one with a size above 1,024, also of that length");
+    caller = 0;
+    request_len = 8 + WAGGLELOFT_DPE_DATA_LONGEST;
+    all = declined(WAGGLELOFT_DPE_WRONG_DATA);
+    request_len = 8;
+    check(declined(WAGGLELOFT_DPE_WRONG_DATA) && all, "1,024 bytes and none are data, and malformed");
+    caller = 7;
+}
+
+/* The node's caller alone may name it. */
+static void check_callers(void)
+{
+    static const uint32_t others[] = {1, 7, 0x100, 0x1000000, UINT32_MAX};
+    bool (*const opens[])(void) = {open_derive, open_extend, open_rotate, open_destroy};
+    bool all = starred(1);
+    for (size_t i = 0; i < COUNT(opens); i++) {
+        fresh();
+        all = opens[i]() && all;
+        for (size_t k = 0; k < COUNT(others); k++) {
+            caller = others[k];
+            all = declined(WAGGLELOFT_DPE_OTHER_CALLER) && all;
+        }
+        caller = 7;
+    }
+    check(all, "a command of another caller than the node's gets 7");
+    fresh();
+    caller = 300;
+    all = open_stash() && run(SIZE_MAX) == STASH_STORES && open_derive() && run(SIZE_MAX) == RETAINING_STORES;
+    check(all && image[NODE(2)] == USED_ON(1) && image[NODE(2) + LOCALITY] == 300, "a child is its parent's caller's");
+    caller = 7;
+}
+
+/* Handles other than the retired one are pairwise different, or the nodes are not well formed. */
+static void check_live_handles(void)
+{
+    bool all = true;
+    for (uint32_t i = 0; i < NODES; i++) {
+        all = starred(NODES - 1) && would(true, WAGGLELOFT_UPDATED) && all;
+        uint32_t other = (i * 7 + 3) % NODES == i ? (i + 1) % NODES : (i * 7 + 3) % NODES;
+        memcpy(image + NODE(i) + HANDLE, image + NODE(other) + HANDLE, HANDLE_LEN);
+        all = malformed() && all;
+        memset(image + NODE(i) + HANDLE, 0xFF, HANDLE_LEN);
+        memset(image + NODE(other) + HANDLE, 0xFF, HANDLE_LEN);
+        all = would(true, WAGGLELOFT_UPDATED) && would(false, WAGGLELOFT_KEPT) && all;
+    }
+    check(all, "two nodes with one handle are not well formed, two retired ones are");
+    all = starred(2);
+    memset(image + NODE(2) + HANDLE, 0, HANDLE_LEN);
+    check(all && malformed() && switches_off(), "nor are two with the default handle, and an update boot switches attestation off");
+    fresh();
+    memset(image + NODE(0) + HANDLE, 0xFF, HANDLE_LEN);
+    check(would(true, WAGGLELOFT_UPDATED) && would(false, WAGGLELOFT_KEPT), "no live handle at all is well formed");
+}
+
+/* A destroy whose number of nodes or whose indices are bent: what counts decides, at every store. */
+static bool bent_destroy(size_t made, uint32_t count, size_t at, uint32_t index, bool fine)
+{
+    bool all = chained(3) && open_destroy() && run(made) == made;
+    work[FIRST_IN] = count;
+    work[NODE_IN + at] = index;
+    if (!fine)
+        return damaged() && all;
+    all = waggleloft_left(work, WORK) == DESTROY_STORES(count) - made && all;
+    while (all && waggleloft_left(work, WORK) > 0)
+        all = store_holds();
+    return all && image[0] == 1 && answer_holds(12, WAGGLELOFT_OK, 12);
+}
+
+static void check_bent_destroys(void)
+{
+    bool fine = true, wrong = true;
+    for (size_t made = 0; made <= DESTROY_STORES(3); made += made < 3 || made > 100 ? 1 : 11) {
+        fine = bent_destroy(made, 4, 30, 0, true) && bent_destroy(made, NODES, 31, 31, true) && bent_destroy(made, 3, 1, 3, true) &&
+               bent_destroy(made, 3, 3, NODES, true) && bent_destroy(made, 3, 31, UINT32_MAX, true) && fine;
+        wrong = bent_destroy(made, NODES + 1, 0, 3, false) && bent_destroy(made, UINT32_MAX, 0, 3, false) &&
+                bent_destroy(made, 3, 0, NODES, false) && bent_destroy(made, 3, 2, UINT32_MAX, false) &&
+                bent_destroy(made, 5, 4, NODES, false) && wrong;
+    }
+    check(fine, "a destroy with other indices, with more nodes, and with any words behind those that count");
+    check(wrong, "one of more nodes than there are, or with an index beyond them: 0 left, 9 and 7");
+    check(bent_destroy(0, 0, 0, UINT32_MAX, true), "one of no nodes makes 2 stores");
+    bool all = chained(3) && open_destroy();
+    work[FIRST_IN + 1] = 1;
+    check(all && damaged(), "one of 2^32 and 3 nodes: 0 left, 9 and 7");
 }
 
 /* ---- journal entries ---- */
@@ -1211,6 +1889,18 @@ static struct entry extension_entry(uint32_t number)
     return entry;
 }
 
+/* A command to the tree: the data behind its first byte, the fresh handle if any, the caller, whose node it made or named. */
+static struct entry tree_entry(uint8_t kind, bool with_fresh, uint32_t its_caller)
+{
+    struct entry entry = {.len = 0};
+    put_byte(&entry, kind);
+    put_bytes(&entry, request + 9, request_len - 9);
+    if (with_fresh)
+        put_bytes(&entry, lent_handle, lent_len);
+    put_groups(&entry, its_caller);
+    return entry;
+}
+
 /* The entry of each kind's work as its opening was asked for it. */
 static struct entry entry_asked(uint32_t kind)
 {
@@ -1220,6 +1910,11 @@ static struct entry entry_asked(uint32_t kind)
     case UPDATE: return boot_entry(2);
     case STASH: return stash_entry();
     case EXTENSION: return extension_entry(EXTENDED);
+    case DERIVE:
+    case REPLACE: return tree_entry(6, true, work[NODE_IN + LOCALITY]);
+    case EXTEND: return tree_entry(7, false, work[NODE_IN + LOCALITY]);
+    case ROTATE: return tree_entry(8, true, work[NODE_IN + LOCALITY]);
+    case DESTROY: return tree_entry(9, false, work[NODE_IN + LOCALITY]);
     case DISABLING: put_byte(&entry, 3); return entry;
     default: return entry;
     }
@@ -1229,6 +1924,7 @@ static struct entry entry_asked(uint32_t kind)
 static struct entry entry_in_words(void)
 {
     const uint32_t *node = work_before + NODE_IN, *inputs = work_before + INPUTS_IN;
+    const uint32_t *handle = inputs + DIGEST / 4, *lent_then = handle + HANDLE_LEN / 4;
     struct entry entry = {.len = 0};
     switch (work_before[KIND_IN]) {
     case COLD: put_byte(&entry, 1); put_bytes(&entry, inputs, 2 * DIGEST); break;
@@ -1242,8 +1938,22 @@ static struct entry entry_in_words(void)
         put_groups(&entry, node[LOCALITY]);
         break;
     case EXTENSION: put_byte(&entry, 5); put_groups(&entry, work_before[FIRST_IN]); put_bytes(&entry, inputs, DIGEST); break;
+    case DERIVE:
+    case REPLACE:
+        put_byte(&entry, 6);
+        put_bytes(&entry, handle, HANDLE_LEN);
+        put_groups(&entry, work_before[KIND_IN] == DERIVE ? 1 : 0);
+        put_groups(&entry, node[TYPE]);
+        put_bytes(&entry, inputs, DIGEST);
+        put_bytes(&entry, lent_then, HANDLE_LEN);
+        break;
+    case EXTEND: put_byte(&entry, 7); put_bytes(&entry, handle, HANDLE_LEN); put_bytes(&entry, inputs, DIGEST); break;
+    case ROTATE: put_byte(&entry, 8); put_bytes(&entry, handle, HANDLE_LEN); put_bytes(&entry, lent_then, HANDLE_LEN); break;
+    case DESTROY: put_byte(&entry, 9); put_bytes(&entry, handle, HANDLE_LEN); break;
     default: break;
     }
+    if (work_before[KIND_IN] >= DERIVE)
+        put_groups(&entry, node[LOCALITY]);
     return entry;
 }
 
@@ -1278,19 +1988,17 @@ static bool entry_is(const struct entry *expected)
 /* Every kind of work, one after the other: 7 before its last store, whatever the buffer, then its entry. */
 static void check_entries(void)
 {
-    static const uint32_t order[] = {COLD, STASH, EXTENSION, UPDATE, NOTHING, DISABLING};
     fill_words(image, IMAGE);
     fill_bytes(request, LONGEST_REQUEST);
-    for (size_t k = 0; k < COUNT(order); k++) {
-        bool all = KINDS[order[k]].open();
-        struct entry entry = entry_asked(order[k]);
-        for (size_t made = 0; made < KINDS[order[k]].stores; made++) {
+    for (size_t k = 0; k < NO_KIND; k++) {
+        bool all = KINDS[ORDER[k]].open();
+        struct entry entry = entry_asked(ORDER[k]);
+        for (size_t made = 0; made < KINDS[ORDER[k]].stores; made++) {
             all = entry_holds(0, WAGGLELOFT_STORES_LEFT, &entry) && entry_holds(ENTRY, WAGGLELOFT_STORES_LEFT, &entry) && all;
             all = run(1) == 1 && all;
         }
-        check_kind(all && entry_is(&entry), "the entry of", order[k]);
+        check_kind(all && entry_is(&entry), "the entry of", ORDER[k]);
     }
-    check(boot_entry(1).len == ENTRY, "a boot's entry is the longest");
 }
 
 /* What has nothing to store has an entry of no bytes, in any buffer. */
@@ -1345,6 +2053,32 @@ static void check_numbers_of_entries(void)
     caller = 7;
 }
 
+/* Type and caller of a derive at the borders of a number's groups; retain is 0 or 1, so the longest has 100 bytes. */
+static void check_numbers_of_tree_entries(void)
+{
+    static const uint32_t numbers[] = {0, 0x7F, 0x80, 300, 0x3FFF, 0x4000, 0x1FFFFF, 0x200000, 0xFFFFFFF, 0x10000000, UINT32_MAX};
+    bool all = true;
+    size_t longest = 0;
+    for (size_t i = 0; i < COUNT(numbers); i++) {
+        for (uint32_t retain = 0; retain <= 1; retain++) {
+            fresh();
+            caller = numbers[i];
+            all = open_stash() && run(SIZE_MAX) == STASH_STORES && all;
+            derive_of(DEFAULT, retain, numbers[COUNT(numbers) - 1 - i], 0x66);
+            all = invoke_with_fresh(DEFAULT) && run(SIZE_MAX) > 0 && all;
+            struct entry entry = tree_entry(6, true, caller);
+            all = entry_is(&entry) && all;
+            longest = entry.len > longest ? entry.len : longest;
+        }
+    }
+    check(all, "type and caller of a derive's entry, at every length of a number");
+    derive_of(child, 1, UINT32_MAX, 0x66);
+    all = invoke_with_fresh(child) && run(SIZE_MAX) == RETAINING_STORES;
+    struct entry entry = tree_entry(6, true, caller);
+    check(all && entry_is(&entry) && entry.len == 100 && longest < 100 && boot_entry(1).len == 97 && ENTRY == 104, "the longest entry of a unit has 100 bytes");
+    caller = 7;
+}
+
 /* Registers 4 to 30; one that is moved within them is told as it stands, one outside leaves no entry. */
 static void check_registers_of_entries(void)
 {
@@ -1366,14 +2100,13 @@ static void check_registers_of_entries(void)
 /* An entry taken before the first store: of a copy, whose stores go to another image. */
 static void check_entries_beforehand(void)
 {
-    static const uint32_t order[] = {COLD, STASH, EXTENSION, UPDATE, DISABLING};
     uint32_t *scratch = lent(IMAGE, sizeof *scratch), *copy = lent(WORK, sizeof *copy);
     fresh();
-    for (size_t k = 0; k < COUNT(order); k++) {
-        struct entry expected = entry_asked(order[k]);
+    for (size_t k = 0; k < NO_KIND; k++) {
         uint8_t entry[ENTRY];
         size_t written = 0;
-        bool all = KINDS[order[k]].open();
+        bool all = KINDS[ORDER[k]].open();
+        struct entry expected = entry_asked(ORDER[k]);
         memcpy(copy, work, WORK * sizeof *work);
         remember();
         fill_words(scratch, IMAGE);
@@ -1381,7 +2114,7 @@ static void check_entries_beforehand(void)
             continue;
         all = all && waggleloft_entry(copy, WORK, entry, ENTRY, &written) == WAGGLELOFT_OK && written == expected.len &&
               memcmp(entry, expected.bytes, written) == 0 && work_same() && image_same();
-        check_kind(all && run(SIZE_MAX) == KINDS[order[k]].stores && entry_is(&expected), "an entry beforehand of", order[k]);
+        check_kind(all && run(SIZE_MAX) == KINDS[ORDER[k]].stores && entry_is(&expected), "an entry beforehand of", ORDER[k]);
     }
     free(scratch);
     free(copy);
@@ -1410,12 +2143,6 @@ static void check_secret_of_entries(void)
 
 /* ---- refused requests and damaged works ---- */
 
-static bool request_refused(uint32_t code, size_t len, uint32_t number)
-{
-    remember();
-    return ask_as_is(code, len, none, 0, false) == number && image_same() && work_same();
-}
-
 static uint32_t reversed(uint32_t code) { return code >> 24 | (code >> 8 & 0xFF00U) | (code & 0xFF00U) << 8 | code << 24; }
 
 static void check_refused_requests(void)
@@ -1426,6 +2153,8 @@ static void check_refused_requests(void)
     for (size_t i = 0; i < COUNT(COMMANDS); i++) {
         uint32_t code = COMMANDS[i].code;
         size_t right = COMMANDS[i].len;
+        if (code == WAGGLELOFT_INVOKE_DPE_COMMAND)
+            put_number(4, (uint32_t)(right - 8));
         for (size_t len = 0; len <= 200; len++)
             if (len != right)
                 all = request_refused(code, len, WAGGLELOFT_WRONG_LENGTH) && all;
@@ -1487,9 +2216,10 @@ static bool damaged_holds(void)
 
 static void check_damaged_works(void)
 {
-    static const uint32_t values[] = {0, 1, 2, 3, 4, 5, 6, AROUND(EXTENSION_STORES), AROUND(DISABLING_STORES), NODES - 1, NODES,
-                                      30, 31, AROUND(STASH_STORES), AROUND(UPDATE_STORES), AROUND(LONGEST), AROUND(COLD_STORES),
-                                      0x7FFFFFFF, 0x80000000, 0xFFFFFFFF};
+    static const uint32_t values[] = {0, 1, 2, 3, 4, 5, 6, 7, 8, 9, 10, 11, AROUND(EXTENSION_STORES), AROUND(DISABLING_STORES),
+                                      AROUND(EXTEND_STORES), 30, AROUND(NODES), AROUND(RETAINING_STORES), AROUND(RETIRING_STORES),
+                                      AROUND(STASH_STORES), AROUND(UPDATE_STORES), AROUND(DESTROY_STORES(2)), AROUND(LONGEST),
+                                      AROUND(DESTROY_STORES(NODES)), AROUND(COLD_STORES), 0x7FFFFFFF, 0x80000000, 0xFFFFFFFF};
     bool all = true;
     fill_words(image, IMAGE);
     for (int i = 0; i < 20000; i++) {
@@ -1502,6 +2232,9 @@ static void check_damaged_works(void)
         fill_words(work, WORK);
         for (size_t at = 0; at < REGISTER_IN; at++)
             work[at] = at % 2 == 0 && at > 0 && random32() % 8 != 0 ? 0 : values[random32() % COUNT(values)];
+        /* Mostly indices, which a destroy looks at. */
+        for (size_t at = NODE_IN; i % 2 == 0 && at < NODE_IN + NODES; at++)
+            work[at] = random32() % (i % 4 == 0 ? NODES : NODES + 1);
         all = damaged_holds() && all;
     }
     check(all, "works with numbers at and past their bounds");
@@ -1532,6 +2265,7 @@ int main(void)
     buffer = lent(LONGEST, 1);
     buffer_before = lent(LONGEST, 1);
     none = lent(0, 1);
+    lend_nothing();
     fill_words(work, WORK);
     fill_bytes(runtime, DIGEST);
     fill_bytes(manifest, DIGEST);
@@ -1565,10 +2299,24 @@ int main(void)
     check_longest_chain();
     check_mirrored();
     check_wrong_ways();
+    check_words_of_tree();
+    check_tree_nodes();
+    check_destroyed_chains();
+    check_cut_chain();
+    check_stopped_destroys();
+    check_reuse();
+    check_order_of_declines();
+    check_fresh_handles();
+    check_malformed_data();
+    check_sizes_of_data();
+    check_callers();
+    check_live_handles();
+    check_bent_destroys();
     check_entries();
     check_no_entries();
     check_entry_of_disabling();
     check_numbers_of_entries();
+    check_numbers_of_tree_entries();
     check_registers_of_entries();
     check_entries_beforehand();
     check_secret_of_entries();
@@ -1586,5 +2334,6 @@ int main(void)
     free(buffer);
     free(buffer_before);
     free(none);
+    free(lent_handle);
     return conclude();
 }

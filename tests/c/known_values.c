@@ -128,11 +128,15 @@ static void check_names(void)
         {"the nodes' first word", WAGGLELOFT_NODES_AT, 400},
         {"words of a node", WAGGLELOFT_NODE_WORDS, 35},
         {"the nodes fill the image", WAGGLELOFT_NODES_AT + WAGGLELOFT_NODES * WAGGLELOFT_NODE_WORDS, WAGGLELOFT_IMAGE_WORDS},
+        {"a node's handle", WAGGLELOFT_NODE_HANDLE, 2},
         {"a node's current measurement", WAGGLELOFT_NODE_CURRENT, 8},
         {"a node's type", WAGGLELOFT_NODE_TYPE, 32},
         {"a node's locality", WAGGLELOFT_NODE_LOCALITY, 33},
         {"a node's svn", WAGGLELOFT_NODE_SVN, 34},
         {"the longest answer", WAGGLELOFT_ANSWER_LONGEST, 104},
+        {"the longest entry", WAGGLELOFT_ENTRY_LONGEST, 104},
+        {"bytes of a handle", WAGGLELOFT_HANDLE_BYTES, 20},
+        {"the longest data", WAGGLELOFT_DPE_DATA_LONGEST, 1024},
         {"bytes of a digest", WAGGLELOFT_SHA384_BYTES, 48},
         {"the longest message", WAGGLELOFT_SHA384_LONGEST, 65535},
         {"the most bytes of all slices", WAGGLELOFT_SHA384_TOTAL_LONGEST, 4294967295},
@@ -165,6 +169,21 @@ static void check_names(void)
         {"extend a register", WAGGLELOFT_EXTEND_PCR, 0x50435245},
         {"the first register to extend", WAGGLELOFT_EXTEND_FIRST, 4},
         {"the last register to extend", WAGGLELOFT_EXTEND_LAST, 30},
+        {"a command to the tree", WAGGLELOFT_INVOKE_DPE_COMMAND, 0x44504543},
+        {"derive", WAGGLELOFT_TREE_DERIVE, 1},
+        {"extend", WAGGLELOFT_TREE_EXTEND, 2},
+        {"rotate", WAGGLELOFT_TREE_ROTATE, 3},
+        {"destroy", WAGGLELOFT_TREE_DESTROY, 4},
+        {"dpe result: done", WAGGLELOFT_DPE_DONE, 0},
+        {"dpe result: no free node", WAGGLELOFT_DPE_NO_FREE_NODE, 1},
+        {"dpe result: off", WAGGLELOFT_DPE_OFF, 2},
+        {"dpe result: no holder", WAGGLELOFT_DPE_NO_HOLDER, 3},
+        {"dpe result: wrong data", WAGGLELOFT_DPE_WRONG_DATA, 5},
+        {"dpe result: unknown handle", WAGGLELOFT_DPE_UNKNOWN_HANDLE, 6},
+        {"dpe result: other caller", WAGGLELOFT_DPE_OTHER_CALLER, 7},
+        {"dpe result: wrong fresh handle", WAGGLELOFT_DPE_WRONG_FRESH, 8},
+        {"dpe result: the root", WAGGLELOFT_DPE_ROOT, 9},
+        {"dpe result: has children", WAGGLELOFT_DPE_HAS_CHILDREN, 10},
     };
     for (size_t i = 0; i < sizeof names / sizeof *names; i++) {
         check(names[i].found == names[i].expected, names[i].name);
@@ -188,6 +207,10 @@ static void check_checksums(void)
     check(waggleloft_checksum(WAGGLELOFT_EXTEND_PCR, register_4, 52) ==
               UINT32_C(0xFFFFFED2),
           "checksum of an extension of register 4 by 48 zero bytes");
+    /* 0x44 + 0x50 + 0x45 + 0x43 is 0x11C. */
+    check(waggleloft_checksum(WAGGLELOFT_INVOKE_DPE_COMMAND, zeros, 4) ==
+              UINT32_C(0xFFFFFEE4),
+          "checksum of a command to the tree without data");
     check(waggleloft_checksum(0, zeros, 0) == 0,
           "checksum of code 0 without bytes");
     check(waggleloft_checksum(1, ff, sizeof ff) == UINT32_C(0xFFFFFE01),

@@ -75,6 +75,18 @@ list_with=$(printf '%s\n  node 1  HOUR  %.12s..  svn 300' "$list_without" "$(of 
 # What the example of the gearbox maker prints of a register: zero extended by the digest of his program.
 register_value=$(extended "$zero" "$(of 'shifts gears')")
 
+# What the example of the tree prints: the root, and the child while it is there, with the digest of its program.
+tree_root=$(printf '  node 0  RTJM  %.12s..  the default handle' "$(extended "$zero" "$(times 48 11)" "$(times 48 33)")")
+tree_child() { # PROGRAM
+    printf '%s\n  node 1 below node 0  HOUR  %.12s..  a handle of its own' "$tree_root" "$(of "$1")"
+}
+tree_steps=$(printf '%s\n' "$tree_root" \
+    'derive: 37 stores, dpe result 0' "$(tree_child 'counts hours')" \
+    'extend: 26 stores, dpe result 0' "$(tree_child 'counts hours better')" \
+    'rotate: 7 stores, dpe result 0' \
+    'destroy by the old handle: 0 stores, dpe result 6' "$(tree_child 'counts hours better')" \
+    'destroy: 37 stores, dpe result 0' "$tree_root")
+
 # What the example of a journal leaves: the unit made by hand, without its secret.
 new_unit
 cold_boot "${boots[@]}"
@@ -99,6 +111,7 @@ run_examples() { # SUFFIX COMMAND..
         expect "gearbox$suffix $register" 'the extension was refused with number 12'$'\n''status 1' \
             "$(refused "$@" "$built/gearbox$suffix" "$register")"
     done
+    expect "tree$suffix" "$tree_steps" "$("$@" "$built/tree$suffix")"
     "$@" "$built/journal$suffix" "$built/kept.image" "$built/kept.journal"
     expect "journal$suffix" same "$(same_unit)"
     rm "$built/kept.image" "$built/kept.journal"

@@ -47,6 +47,8 @@ extern "C" {
         handoff: *const u8,
         handoff_len: usize,
         verdict: bool,
+        fresh: *const u8,
+        fresh_len: usize,
         work: *mut u32,
         work_len: usize,
     ) -> u32;
@@ -151,7 +153,7 @@ pub fn open_request(image: &[u32], request: &Request<'_>, work: &mut [u32; WORK_
     call!(
         waggleloft_open_request,
         read image, value request.code, read request.bytes, value request.caller,
-        read request.handoff, value request.verdict, write work
+        read request.handoff, value request.verdict, read request.fresh, write work
     )
 }
 

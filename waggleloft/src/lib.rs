@@ -51,7 +51,11 @@ pub const WORK_WORDS: usize = 130;
 /// The longest answer, in bytes: a buffer of so many bytes takes every answer.
 pub const ANSWER_LONGEST: usize = 104;
 /// The longest journal entry, in bytes: a buffer of so many bytes takes every entry.
-pub const ENTRY_LONGEST: usize = 97;
+pub const ENTRY_LONGEST: usize = 104;
+/// Bytes of a node's handle.
+pub const HANDLE_BYTES: usize = 20;
+/// The most bytes of the data of [`code::INVOKE_DPE_COMMAND`].
+pub const DPE_DATA_LONGEST: usize = 1024;
 /// Bytes of a SHA-384 digest.
 pub const SHA384_BYTES: usize = 48;
 /// The longest message, in bytes, that [`sha384`] takes, and the longest slice of a [`Sha384`].
@@ -89,24 +93,29 @@ pub const NODES: usize = 32;
 pub const NODES_AT: usize = 400;
 /// Words of a node.
 pub const NODE_WORDS: usize = 35;
+/// Within a node: the first of the five words of its handle, a word's lowest byte first; all zero is the
+/// default handle, all 0xFF a retired one.
+pub const NODE_HANDLE: usize = 2;
 /// Within a node: the first of the twelve words of the measured digest, a word's lowest byte first; the
 /// root's is PCR3.
 pub const NODE_CURRENT: usize = 8;
 /// Within a node: the measurement's type, as the request gave it.
 pub const NODE_TYPE: usize = 32;
-/// Within a node: the number of the caller that stashed it (locality).
+/// Within a node: the number of the caller that stashed or derived it (locality).
 pub const NODE_LOCALITY: usize = 33;
-/// Within a node: the measurement's svn, as the request gave it; the root's is 0.
+/// Within a node: the measurement's svn, as the request gave it; the root's and a derived child's is 0.
 pub const NODE_SVN: usize = 34;
 
 /// Command codes of the mailbox. What a command refuses of its own comes after
 /// [`BadChecksum`](crate::Refusal::BadChecksum).
 pub mod code {
-    /// Adds a measurement to the list: a free node takes it ([`NODES`](crate::NODES)). The request is 60 bytes:
-    /// checksum 4, type 4, digest 48, svn 4 (the program's security version number, lowest byte first). The
-    /// answer is 12 bytes: checksum, status and dpe result, 4 each.
+    /// Adds a measurement to the list: a free node takes it ([`NODES`](crate::NODES)), below the node that
+    /// holds the default handle, and that handle with it. The request is 60 bytes: checksum 4, type 4, digest
+    /// 48, svn 4 (the program's security version number, lowest byte first). The answer is 12 bytes: checksum,
+    /// status and dpe result, 4 each. It may be declined with [`OFF`](crate::dpe::OFF),
+    /// [`NO_HOLDER`](crate::dpe::NO_HOLDER) or [`NO_FREE_NODE`](crate::dpe::NO_FREE_NODE), the first that applies.
     ///
-    /// Its own refusal: [`NotWellFormed`](crate::Refusal::NotWellFormed).
+    /// Its own refusal: [`NotWellFormed`](crate::Refusal::NotWellFormed), right after `OFF`.
     pub const STASH_MEASUREMENT: u32 = 0x4D45_4153;
     /// Switches attestation off.
     pub const DISABLE_ATTESTATION: u32 = 0x4453_424C;
@@ -123,6 +132,93 @@ pub mod code {
     /// Its own refusals, the first that applies: [`WrongRegister`](crate::Refusal::WrongRegister),
     /// [`AttestationOff`](crate::Refusal::AttestationOff).
     pub const EXTEND_PCR: u32 = 0x5043_5245;
+    /// A command to the tree of nodes. The request is checksum 4, the size of its data 4 (lowest byte first, at
+    /// most [`DPE_DATA_LONGEST`](crate::DPE_DATA_LONGEST)), and exactly so many bytes of data: one of
+    /// [`tree`](crate::tree) and what it takes, with nothing behind it. The answer is 12 bytes as a stash's.
+    ///
+    /// Its own refusal: [`NotWellFormed`](crate::Refusal::NotWellFormed), right after [`OFF`](crate::dpe::OFF).
+    pub const INVOKE_DPE_COMMAND: u32 = 0x4450_4543;
+}
+
+/// Commands to the tree: the first byte of the data of [`code::INVOKE_DPE_COMMAND`]. Behind it each has the
+/// [`HANDLE_BYTES`] bytes of the handle of the node that it is about; all zero is the default handle. Retain and
+/// type are numbers in groups of seven bits, the lowest first, the top bit set where another group follows, in the
+/// shortest form.
+///
+/// ```
+/// use waggleloft::{checksum, code, dpe, sha384, tree, BootInputs, Refusal, Request, Work, HANDLE_BYTES, IMAGE_WORDS};
+///
+/// # let (mut image, mut work) = ([0; IMAGE_WORDS], Work::new());
+/// # let inputs = BootInputs { runtime: &[0x11; 48], manifest: &[0x33; 48], secret: &[0x5A; 48] };
+/// # work.open_cold_boot(&image, &inputs)?;
+/// # while work.left() > 0 { work.store(&mut image)?; }
+/// // Below the node with the default handle, the root after a cold boot: a child of type 7. The root keeps its
+/// // handle.
+/// let mut request = [0; 8 + 1 + HANDLE_BYTES + 2 + 48];
+/// request[4] = 71; // the size of the data
+/// request[8] = tree::DERIVE;
+/// request[29] = 1; // retain
+/// request[30] = 7; // type
+/// request[31..].copy_from_slice(&sha384(b"counts hours")?);
+/// let sum = checksum(code::INVOKE_DPE_COMMAND, &request[4..]);
+/// request[..4].copy_from_slice(&sum.to_le_bytes());
+///
+/// let random = [0xA5; HANDLE_BYTES]; // from a random source, and never used before
+/// let request = Request {
+///     code: code::INVOKE_DPE_COMMAND,
+///     bytes: &request,
+///     caller: 0, // the root's
+///     fresh: &random,
+///     ..Request::default()
+/// };
+/// work.open_request(&image, &request)?;
+/// assert_eq!(work.left(), 37);
+/// while work.left() > 0 {
+///     work.store(&mut image)?;
+/// }
+/// let mut answer = [0; 12];
+/// work.answer(&mut answer)?;
+/// assert_eq!(answer[8..], dpe::DONE.to_le_bytes());
+/// # Ok::<(), Refusal>(())
+/// ```
+pub mod tree {
+    /// Retain (1 or 0), type, digest 48: a free node becomes the child of this one, with the fresh handle, the
+    /// digest and svn 0. With retain 0 the handle of this node is retired: no command names it any more.
+    /// 37 stores, 42 with retain 0.
+    pub const DERIVE: u8 = 1;
+    /// Digest 48: it replaces the node's measurement and extends its cumulative one. 26 stores.
+    pub const EXTEND: u8 = 2;
+    /// The node gets the fresh handle in place of its own. 7 stores.
+    pub const ROTATE: u8 = 3;
+    /// The node is free again, and so is upwards each retired node that is left without a child, but never the
+    /// root. 2 stores and 35 for each node that is freed.
+    pub const DESTROY: u8 = 4;
+}
+
+/// Dpe results: what the answer of a stash or of a command to the [`tree`] says in its bytes 8 to 11. All but
+/// [`DONE`](dpe::DONE) decline: nothing was stored. A command to the tree gets the first that applies in this order,
+/// [`Refusal::NotWellFormed`] right after [`OFF`](dpe::OFF): 2, 5, 6, 7, 8, 1, 9, 10.
+pub mod dpe {
+    /// Served.
+    pub const DONE: u32 = 0;
+    /// All nodes are used (stash, derive).
+    pub const NO_FREE_NODE: u32 = 1;
+    /// Attestation is off.
+    pub const OFF: u32 = 2;
+    /// No node holds the default handle (stash).
+    pub const NO_HOLDER: u32 = 3;
+    /// The data is not exactly one command.
+    pub const WRONG_DATA: u32 = 5;
+    /// No node holds the handle, or it is the retired one.
+    pub const UNKNOWN_HANDLE: u32 = 6;
+    /// The caller's number is not the node's.
+    pub const OTHER_CALLER: u32 = 7;
+    /// The fresh handle is not 20 bytes, is all 0 or 0xFF, or is in use.
+    pub const WRONG_FRESH: u32 = 8;
+    /// The root is neither extended nor destroyed.
+    pub const ROOT: u32 = 9;
+    /// A node with children is not destroyed.
+    pub const HAS_CHILDREN: u32 = 10;
 }
 
 /// The SHA-384 digest of a message.

@@ -63,7 +63,7 @@ refusals! {
     NoStoreLeft = 9, "no store is left";
     /// the message or the slice is longer than [`SHA384_LONGEST`](crate::SHA384_LONGEST) bytes.
     LongMessage = 10, "the message or the slice is longer than 65,535 bytes";
-    /// the image's nodes are not well formed (stash).
+    /// the image's nodes are not well formed (stash, tree).
     NotWellFormed = 11, "the image's nodes are not well formed";
     /// the register is none of [`EXTEND_FIRST`](crate::EXTEND_FIRST) to [`EXTEND_LAST`](crate::EXTEND_LAST) (extend).
     WrongRegister = 12, "the register is none of PCR4 to PCR30";

@@ -67,6 +67,10 @@ pub struct Request<'a> {
     pub handoff: &'a [u8],
     /// The verdict on a signature: for verify, of no matter otherwise.
     pub verdict: bool,
+    /// A fresh handle: for [`tree::DERIVE`](crate::tree::DERIVE) and [`tree::ROTATE`](crate::tree::ROTATE)
+    /// [`HANDLE_BYTES`](crate::HANDLE_BYTES) bytes that were never a handle before, from a random source; of
+    /// no matter otherwise.
+    pub fresh: &'a [u8],
 }
 
 /// A piece of work in hand: what it will store, how far it is, and its answer.

@@ -1,6 +1,8 @@
 //! The engine through the crate: a boot, requests, cuts and refusals.
 
 mod common;
+#[path = "common/works.rs"]
+mod works;
 
 use common::{fresh, run, INPUTS};
 use waggleloft::{
@@ -8,18 +10,11 @@ use waggleloft::{
     ANSWER_LONGEST, EXTEND_FIRST, EXTEND_LAST, IMAGE_WORDS, NODES, NODES_AT, NODE_CURRENT,
     NODE_LOCALITY, NODE_SVN, NODE_TYPE, NODE_WORDS, WORK_WORDS,
 };
+use works::{bytes_at, every_cut, node, sealed, DISABLING, UPDATE};
 
 /// Stores of each further kind of work.
 const STASH: usize = 54;
-const UPDATE: usize = 62;
-const DISABLING: usize = 15;
 const EXTENSION: usize = 14;
-
-/// The 48 bytes in the twelve words of an image from `at` on: a word's lowest byte first.
-fn bytes_at(image: &[u32], at: usize) -> Vec<u8> {
-    let words = image[at..at + 12].iter();
-    words.flat_map(|word| word.to_le_bytes()).collect()
-}
 
 fn digest_at(image: &[u32], at: usize) -> String {
     let bytes = bytes_at(image, at).into_iter();
@@ -31,19 +26,9 @@ fn register(number: u32) -> usize {
     16 + 12 * number as usize
 }
 
-/// The first word of a node.
-fn node(index: usize) -> usize {
-    NODES_AT + NODE_WORDS * index
-}
-
 /// The word of a node's svn.
 fn svn_at(index: usize) -> usize {
     node(index) + NODE_SVN
-}
-
-/// A request of these arguments, with its checksum.
-fn sealed(code: u32, arguments: &[u8]) -> Vec<u8> {
-    [&checksum(code, arguments).to_le_bytes(), arguments].concat()
 }
 
 fn open(work: &mut Work, image: &[u32], code: u32, bytes: &[u8]) -> Result<(), Refusal> {
@@ -103,56 +88,15 @@ fn sizes_are_the_archives() {
     assert_eq!(archive_sizes(), (WORK_WORDS, IMAGE_WORDS));
 }
 
-/// Cuts a request's work after every number of its stores, with an update boot behind; `shown` is a word
-/// that is zero unless the work has counted.
-fn every_cut(
-    open: impl Fn(&mut Work, &[u32]) -> Result<(), Refusal>,
-    stores: usize,
-    length: usize,
-    shown: usize,
-) {
-    for cut in 0..=stores {
-        let mut image = fresh();
-        let mut work = Work::new();
-        open(&mut work, &image).expect("accepted");
-        assert_eq!(work.left(), stores);
-        assert_eq!(run(&mut work, &mut image, cut), cut);
-        let taken = work.answer(&mut [0xEE; ANSWER_LONGEST]);
-        let expected = if cut == stores {
-            Ok(length)
-        } else {
-            Err(Refusal::StoresLeft)
-        };
-        assert_eq!(taken, expected, "cut {cut}");
-        let outcome = work.open_update_boot(&image, &INPUTS, true);
-        let on = cut == 0 || cut == stores;
-        let expected = if on {
-            Outcome::Updated
-        } else {
-            Outcome::Disabled
-        };
-        assert_eq!(outcome, Ok(expected), "cut {cut}");
-        assert_eq!(
-            run(&mut work, &mut image, usize::MAX),
-            if on { UPDATE } else { DISABLING }
-        );
-        assert_eq!(image[1], u32::from(on), "cut {cut}");
-        assert_eq!(image[4..16].iter().all(|&word| word == 0), !on, "cut {cut}");
-        if on {
-            assert_eq!(image[shown] != 0, cut == stores, "cut {cut}");
-        }
-    }
-}
-
 #[test]
 fn every_cut_of_a_stash() {
-    every_cut(open_stash, STASH, 12, svn_at(1));
+    every_cut(&fresh(), open_stash, STASH, 12, svn_at(1));
 }
 
 #[test]
 fn every_cut_of_an_extension() {
     let open = |work: &mut Work, image: &[u32]| open_extension(work, image, 17, 0x66);
-    every_cut(open, EXTENSION, 8, register(17));
+    every_cut(&fresh(), open, EXTENSION, 8, register(17));
 }
 
 #[test]

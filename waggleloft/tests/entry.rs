@@ -4,9 +4,12 @@ mod common;
 
 use common::{fresh, run, INPUTS};
 use waggleloft::{
-    checksum, code, BootInputs, Outcome, Refusal, Request, Work, ENTRY_LONGEST, IMAGE_WORDS, NODES,
-    WORK_WORDS,
+    checksum, code, tree, BootInputs, Outcome, Refusal, Request, Work, ENTRY_LONGEST, HANDLE_BYTES,
+    IMAGE_WORDS, NODES, WORK_WORDS,
 };
+
+/// Bytes of a boot's entry.
+const BOOT: usize = 97;
 
 fn open_from(
     work: &mut Work,
@@ -21,6 +24,27 @@ fn open_from(
         bytes: &bytes,
         caller,
         verdict: true,
+        ..Request::default()
+    };
+    work.open_request(image, &request)
+}
+
+/// Opens a command to the tree.
+fn open_tree(
+    work: &mut Work,
+    image: &[u32],
+    caller: u32,
+    data: &[u8],
+    fresh: &[u8],
+) -> Result<(), Refusal> {
+    let code = code::INVOKE_DPE_COMMAND;
+    let size = u32::try_from(data.len()).expect("a size").to_le_bytes();
+    let arguments = [&size, data].concat();
+    let request = Request {
+        code,
+        bytes: &[&checksum(code, &arguments).to_le_bytes()[..], &arguments].concat(),
+        caller,
+        fresh,
         ..Request::default()
     };
     work.open_request(image, &request)
@@ -89,7 +113,7 @@ fn boots() {
     let digests = [[0x11; 48], [0x33; 48]].concat();
     assert_eq!(work.open_cold_boot(&image, &INPUTS), Ok(Outcome::Cold));
     let cold = [&[1][..], &digests].concat();
-    assert_eq!(cold.len(), ENTRY_LONGEST);
+    assert_eq!(cold.len(), BOOT);
     assert_entry_at_last(&mut work, &mut image, &cold);
     let updated = work.open_update_boot(&image, &INPUTS, true);
     assert_eq!(updated, Ok(Outcome::Updated));
@@ -109,7 +133,7 @@ fn secret_is_not_told() {
         assert_eq!(work.open_cold_boot(&image, &inputs), Ok(Outcome::Cold));
         run(&mut work, &mut image, usize::MAX);
         let mut entry = [0; ENTRY_LONGEST];
-        assert_eq!(work.entry(&mut entry), Ok(ENTRY_LONGEST));
+        assert_eq!(work.entry(&mut entry), Ok(BOOT));
         assert!(!entry.contains(&secret[0]), "{entry:02x?}");
     }
 }
@@ -169,6 +193,58 @@ fn extensions() {
         let expected = [vec![5], groups(register), vec![0x77; 48]].concat();
         assert_entry_at_last(&mut work, &mut image, &expected);
     }
+}
+
+/// A stash's node is the caller's, so that he may derive below it and go on with the child: the data behind its first
+/// byte, the fresh handle of a derive and of a rotate, the caller.
+#[test]
+fn tree_commands() {
+    let handle = |byte| vec![byte; HANDLE_BYTES];
+    for caller in [0, 0x7F, 300, u32::MAX] {
+        for retain in [0, 1] {
+            let mut image = fresh();
+            let mut work = Work::new();
+            let code = code::STASH_MEASUREMENT;
+            open_from(&mut work, &image, caller, code, &stash(5, 6)).expect("accepted");
+            run(&mut work, &mut image, usize::MAX);
+            let derive = [handle(0), vec![retain], groups(caller), vec![0x66; 48]].concat();
+            let extend = [handle(0xA1), vec![0x77; 48]].concat();
+            let commands = [
+                (6, tree::DERIVE, derive, handle(0xA1)),
+                (7, tree::EXTEND, extend, vec![]),
+                (8, tree::ROTATE, handle(0xA1), handle(0xA2)),
+                (9, tree::DESTROY, handle(0xA2), vec![]),
+            ];
+            for (kind, command, rest, fresh) in commands {
+                let data = [&[command], &rest[..]].concat();
+                open_tree(&mut work, &image, caller, &data, &fresh).expect("accepted");
+                let expected = [vec![kind], rest, fresh, groups(caller)].concat();
+                assert_entry_at_last(&mut work, &mut image, &expected);
+            }
+        }
+    }
+}
+
+/// A derive with type and caller of five groups: [`ENTRY_LONGEST`] has room for a retain of five groups too, which no
+/// unit writes.
+#[test]
+fn longest_entry() {
+    let mut image = fresh();
+    let mut work = Work::new();
+    let code = code::STASH_MEASUREMENT;
+    open_from(&mut work, &image, u32::MAX, code, &stash(5, 6)).expect("accepted");
+    run(&mut work, &mut image, usize::MAX);
+    let rest = [
+        vec![0; HANDLE_BYTES],
+        vec![1],
+        groups(u32::MAX),
+        vec![0; 48],
+    ]
+    .concat();
+    let data = [&[tree::DERIVE], &rest[..]].concat();
+    open_tree(&mut work, &image, u32::MAX, &data, &[0xA1; HANDLE_BYTES]).expect("accepted");
+    run(&mut work, &mut image, usize::MAX);
+    assert_eq!(work.entry(&mut [0; ENTRY_LONGEST]), Ok(100));
 }
 
 /// By a command and by a boot: the byte 03.

@@ -1,6 +1,6 @@
 //! The crate and include/waggleloft.h have the same numbers, under names that belong together.
 
-use waggleloft::{code, Refusal};
+use waggleloft::{code, dpe, tree, Refusal};
 
 /// The macros of the header that are numbers, without `WAGGLELOFT_`, section by section.
 fn macros(section: &str) -> Vec<(&'static str, u64)> {
@@ -68,9 +68,40 @@ fn every_command_has_the_headers_code() {
         ("EXTEND_PCR", code::EXTEND_PCR),
         ("EXTEND_FIRST", waggleloft::EXTEND_FIRST),
         ("EXTEND_LAST", waggleloft::EXTEND_LAST),
+        ("INVOKE_DPE_COMMAND", code::INVOKE_DPE_COMMAND),
     ];
     let codes = codes.map(|(name, code)| (name, u64::from(code)));
     assert_eq!(macros("Command codes of the mailbox"), codes);
+}
+
+#[test]
+fn every_command_to_the_tree_has_the_headers_number() {
+    let commands = [
+        ("TREE_DERIVE", tree::DERIVE),
+        ("TREE_EXTEND", tree::EXTEND),
+        ("TREE_ROTATE", tree::ROTATE),
+        ("TREE_DESTROY", tree::DESTROY),
+    ];
+    let commands = commands.map(|(name, number)| (name, u64::from(number)));
+    assert_eq!(macros("Commands to the tree"), commands);
+}
+
+#[test]
+fn every_dpe_result_has_the_headers_number() {
+    let results = [
+        ("DPE_DONE", dpe::DONE),
+        ("DPE_NO_FREE_NODE", dpe::NO_FREE_NODE),
+        ("DPE_OFF", dpe::OFF),
+        ("DPE_NO_HOLDER", dpe::NO_HOLDER),
+        ("DPE_WRONG_DATA", dpe::WRONG_DATA),
+        ("DPE_UNKNOWN_HANDLE", dpe::UNKNOWN_HANDLE),
+        ("DPE_OTHER_CALLER", dpe::OTHER_CALLER),
+        ("DPE_WRONG_FRESH", dpe::WRONG_FRESH),
+        ("DPE_ROOT", dpe::ROOT),
+        ("DPE_HAS_CHILDREN", dpe::HAS_CHILDREN),
+    ];
+    let results = results.map(|(name, number)| (name, u64::from(number)));
+    assert_eq!(macros("Dpe results"), results);
 }
 
 #[test]
@@ -80,6 +111,8 @@ fn every_size_is_the_headers() {
         ("WORK_WORDS", waggleloft::WORK_WORDS as u64),
         ("ANSWER_LONGEST", waggleloft::ANSWER_LONGEST as u64),
         ("ENTRY_LONGEST", waggleloft::ENTRY_LONGEST as u64),
+        ("HANDLE_BYTES", waggleloft::HANDLE_BYTES as u64),
+        ("DPE_DATA_LONGEST", waggleloft::DPE_DATA_LONGEST as u64),
         ("SHA384_BYTES", waggleloft::SHA384_BYTES as u64),
         ("SHA384_LONGEST", waggleloft::SHA384_LONGEST as u64),
         ("SHA384_STATE_BYTES", waggleloft::SHA384_STATE_BYTES as u64),
@@ -94,6 +127,7 @@ fn every_place_of_the_nodes_is_the_headers() {
         ("NODES", waggleloft::NODES),
         ("NODES_AT", waggleloft::NODES_AT),
         ("NODE_WORDS", waggleloft::NODE_WORDS),
+        ("NODE_HANDLE", waggleloft::NODE_HANDLE),
         ("NODE_CURRENT", waggleloft::NODE_CURRENT),
         ("NODE_TYPE", waggleloft::NODE_TYPE),
         ("NODE_LOCALITY", waggleloft::NODE_LOCALITY),

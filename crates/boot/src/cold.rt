@@ -10,6 +10,7 @@ use crate::inputs::extend_by_boot;
 use crate::inputs::inputs_of;
 use crate::inputs::inputs_ok;
 use crate::ready::ready_with;
+use layout::HANDLE_BYTES;
 use layout::IMAGE_WORDS;
 use layout::INTERNAL_FLAG;
 use layout::ROOT_MARK;
@@ -43,6 +44,7 @@ fn cold_values(x: Inputs) -> Values
     let register = pack(&journey, 0);
     let node = node_row(
         ROOT_MARK as u16,
+        [0u8; HANDLE_BYTES],
         INTERNAL_FLAG,
         journey,
         cumulative,

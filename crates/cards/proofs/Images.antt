@@ -11,20 +11,21 @@ use mathlib.Core.Option.{Option, none, some}
 use lib.ListN.{getD, set, replicate, length-replicate, length-set}
 use lib.Seq.{getD-set-same, getD-set-other}
 use Rattle.layout.specs.Sizes.{nodeCount}
-use Rattle.layout.specs.Words.{zeros}
+use Rattle.layout.specs.Words.{zeros, tab, wordsAt}
+use Rattle.layout.specs.Below.{allBelow}
 use Rattle.layout.proofs.Blocks.{getD-kept}
 use Rattle.layout.proofs.Bounded.{count-first, first-lowest}
-use Rattle.tree.specs.Tree.{Place, Tree, defaultWords, nodeWith, lowestFree, wellFormed}
+use Rattle.tree.specs.Tree.{Place, Tree, defaultWords, sameHandle, hasHandle, nodeWith, lowestFree, wellFormed}
 use Rattle.tree.specs.Nodes.{word, treeIn}
 use Rattle.nodes.specs.Record.{Node, retiredHandle, withHandle, placeOf, treeOf}
 use Rattle.nodes.proofs.Rows.{row-first}
-use Rattle.tree.proofs.WellFormed.{free-there}
-use Rattle.opening.specs.Values.{extendedByBoot, childNode, rootNode}
+use Rattle.tree.proofs.WellFormed.{default-live, has-used, with-there, with-found, free-there}
+use Rattle.opening.specs.Values.{extendedByBoot, stashedNode, rootNode}
 use Rattle.opening.specs.Tasks.{BootInputs, Measurement, stash, coldBoot}
 use Rattle.opening.specs.Openings.{bootNumber, openColdBoot, coldBooted}
 use Rattle.history.specs.Ledger.{Chain, Contents, treeAt, changed, nextChain, next, blank, stateOf}
 use Rattle.history.proofs.Encoded.{Shape, encodes, tree-read, length-image, mark-read, attestation-read}
-use Rattle.history.proofs.Good.{Good, good-cold, good-stash, holder-node, formed-good}
+use Rattle.history.proofs.Good.{Good, good-cold, good-stash, formed-good}
 use Rattle.history.proofs.Demand.{cold-image}
 use Rattle.cards.specs.Cards.{Serving, usedNodes}
 use Rattle.respond.specs.Program.{programBoot}
@@ -71,13 +72,47 @@ used-changed f (some n) = refl
 abbrev isUsed : Option Node → Bool
 isUsed s = placeOf s .used
 
+-- a node that has the default handle is found
+held-by : (x : Chain) → Good x → (i : ℕ) → i < nodeCount → hasHandle defaultWords (treeAt x i) ≡ true → nodeWith nodeCount (treeAt x) defaultWords < nodeCount
+held-by x g i l e = rw (with-found nodeCount (treeAt x) (g .top) (g .formed) defaultWords default-live i l e) l
+
+default-held : (p : ℕ) (m : Measurement) → hasHandle defaultWords (placeOf (some (stashedNode p m))) ≡ true
+unfolding hasHandle sameHandle allBelow wordsAt tab
+default-held p m = refl
+
+root-held : (journey : List ℕ) → hasHandle defaultWords (placeOf (some (rootNode journey))) ≡ true
+unfolding hasHandle sameHandle allBelow wordsAt tab
+root-held journey = refl
+
 -- a stash fills one more
-module _ (x : Chain) (g : Good x) (k : ℕ) (room : k < nodeCount) (f : Filled (treeAt x) k) (m : Measurement) where
+module _ (x : Chain) (g : Good x) (k : ℕ) (room : k < nodeCount) (f : Filled (treeAt x) k) (held : nodeWith nodeCount (treeAt x) defaultWords < nodeCount)
+    (m : Measurement) where
   free-is : lowestFree nodeCount (treeAt x) ≡ k
   free-is = filled-find (treeAt x) k room f
 
   stash-good : Good (nextChain x (stash m))
-  stash-good = good-stash x m g (rw free-is room)
+  stash-good = good-stash x m g held (rw free-is room)
+
+  abbrev holder : ℕ
+  holder = nodeWith nodeCount (treeAt x) defaultWords
+
+  -- the holder's place is not the free one
+  apart : holder ≢ lowestFree nodeCount (treeAt x)
+  apart z =
+      true≢false
+      (sym (has-used defaultWords (treeAt x holder) (with-there nodeCount (treeAt x) defaultWords held)) ∙ f .high holder (omega (arith, free-is)))
+
+  stash-held : nodeWith nodeCount (treeAt (nextChain x (stash m))) defaultWords < nodeCount
+  stash-held = held-by (nextChain x (stash m)) stash-good (lowestFree nodeCount (treeAt x)) (rw free-is room) there
+    where
+      there : hasHandle defaultWords (treeAt (nextChain x (stash m)) (lowestFree nodeCount (treeAt x))) ≡ true
+      there =
+          unfold nextChain in
+          (ap (λ (s : Option Node). hasHandle defaultWords (placeOf s))
+          (getD-set-other (set (x .nodes) (lowestFree nodeCount (treeAt x)) (some (stashedNode holder m))) holder (lowestFree nodeCount (treeAt x))
+          (changed (withHandle retiredHandle) (getD (x .nodes) holder none)) none (λ e. apart (sym e))
+          ∙ getD-set-same (x .nodes) (lowestFree nodeCount (treeAt x)) (some (stashedNode holder m)) none (omega (arith, free-is, g .shape .nodes)))
+          ∙ default-held holder m)
 
   stash-filled : Filled (treeAt (nextChain x (stash m))) (suc k)
   unfolding nextChain
@@ -100,16 +135,12 @@ module _ (x : Chain) (g : Good x) (k : ℕ) (room : k < nodeCount) (f : Filled (
       free = lowestFree nodeCount (treeAt x)
 
       new : Option Node
-      new = some (childNode (nodeWith nodeCount (treeAt x) defaultWords) m)
+      new = some (stashedNode (nodeWith nodeCount (treeAt x) defaultWords) m)
 
       ms : List (Option Node)
-      ms = set (x .nodes) (lowestFree nodeCount (treeAt x)) (some (childNode (nodeWith nodeCount (treeAt x) defaultWords) m))
+      ms = set (x .nodes) (lowestFree nodeCount (treeAt x)) (some (stashedNode (nodeWith nodeCount (treeAt x) defaultWords) m))
 
-      -- the holder's place is used
-      apart : nodeWith nodeCount (treeAt x) defaultWords ≢ lowestFree nodeCount (treeAt x)
-      apart z = true≢false (sym (ap isUsed (holder-node x g .1)) ∙ f .high h (omega (arith, free-is)))
-
-      -- and it stays used
+      -- the holder's place stays used
       kept : (i : ℕ) → isUsed (getD (set ms h (changed (withHandle retiredHandle) (getD ns h none))) i none) ≡ isUsed (getD ms i none)
       kept i =
           getD-kept isUsed ms h i (changed (withHandle retiredHandle) (getD ns h none)) none
@@ -119,14 +150,16 @@ module _ (x : Chain) (g : Good x) (k : ℕ) (room : k < nodeCount) (f : Filled (
 record Used (x : Contents) (k : ℕ) : Type 0 where
   pub good : Good (x .chain)
   pub filled : Filled (treeAt (x .chain)) k
+  pub held : nodeWith nodeCount (treeAt (x .chain)) defaultWords < nodeCount
 
 stashes : (m : Measurement) (n : ℕ) (x : Contents) (k j : ℕ) → Used x k → k + n ≡ j → j ≤ nodeCount → Used (foldl next x (replicate n (stash m))) j
 stashes m zero x k j u e l = subst (Used x) (sym (add-zero k) ∙ e) u
 stashes m (suc n) x k j u e l =
     stashes m n (next x (stash m)) (suc k) j
     (record {
-      good = stash-good (x .chain) (u .good) k (omega arith) (u .filled) m;
-      filled = stash-filled (x .chain) (u .good) k (omega arith) (u .filled) m;
+      good = stash-good (x .chain) (u .good) k (omega arith) (u .filled) (u .held) m;
+      filled = stash-filled (x .chain) (u .good) k (omega arith) (u .filled) (u .held) m;
+      held = stash-held (x .chain) (u .good) k (omega arith) (u .filled) (u .held) m;
     })
     (omega arith)
     l
@@ -149,7 +182,17 @@ cold-filled n r l =
 
 cold-used : (x : BootInputs) → Used (next blank (coldBoot x)) 1
 unfolding nextChain
-cold-used x = record { good = good-cold (blank .chain) x; filled = cold-filled nodeCount (rootNode (extendedByBoot (zeros 48) x)) (omega arith) }
+cold-used x =
+    record {
+      good = good-cold (blank .chain) x;
+      filled = cold-filled nodeCount (rootNode (extendedByBoot (zeros 48) x)) (omega arith);
+      held =
+          held-by (nextChain (blank .chain) (coldBoot x)) (good-cold (blank .chain) x) 0 (omega arith)
+          (ap (λ (s : Option Node). hasHandle defaultWords (placeOf s))
+          (getD-set-same (replicate nodeCount none) 0 (some (rootNode (extendedByBoot (zeros 48) x))) none
+          (rw (length-replicate {A = Option Node} nodeCount none) (omega arith)))
+          ∙ root-held (extendedByBoot (zeros 48) x));
+    }
 
 history-used : (k : ℕ) → 0 < k → k ≤ nodeCount → Used (stateOf (historyOf k)) k
 unfolding stateOf
@@ -175,6 +218,7 @@ module _ (k : ℕ) (some-node : 0 < k) (few : k ≤ nodeCount) where
         done = mark-read 1 1 x;
         on = attestation-read 1 1 x;
         formed = ap (wellFormed nodeCount) tree-is ∙ formed-good (x .chain) (u .good);
+        held = subst (λ (t : Tree). nodeWith nodeCount t defaultWords < nodeCount) (sym tree-is) (u .held);
       }
 
   pub used-count : usedNodes (imageWith k) ≡ k

@@ -14,7 +14,7 @@ use Rattle.layout.proofs.Bounded.{first-lowest, count-all, count-not-all}
 use Rattle.message.specs.Checksum.{checksumOf}
 use Rattle.tree.specs.Tree.{Tree, defaultWords, nodeWith, lowestFree}
 use Rattle.tree.specs.Nodes.{treeIn}
-use Rattle.tree.proofs.WellFormed.{free-there, holder-only}
+use Rattle.tree.proofs.WellFormed.{free-there}
 use Rattle.table.specs.Table.{numberOf, indexOk}
 use Rattle.work.specs.Entries.{wellShaped, leftOf}
 use Rattle.making.specs.Made.{answerIn, workWith}
@@ -83,8 +83,8 @@ module _ (m : List ℕ) (r : Request) (q : StashRequest r) where
     ruled : (b : Bool) → leb nodeCount (lowestFree nodeCount (treeIn m)) ≡ b
         → openRequest m r ≡ openedOf m (accepted (cond b noStores task) (answer (cond b 1 0)))
     unfolding openRequest viewIn
-    ruled true e = rw (sum-fits, s .size, s .done, q .code, q .size, s .on, s .formed, e)
-    ruled false e = rw (sum-fits, s .size, s .done, q .code, q .size, s .on, s .formed, e)
+    ruled true e = rw (sum-fits, s .size, s .done, q .code, q .size, s .on, s .formed, lt-leb nodeCount (nodeWith nodeCount (treeIn m) defaultWords) (s .held), e)
+    ruled false e = rw (sum-fits, s .size, s .done, q .code, q .size, s .on, s .formed, lt-leb nodeCount (nodeWith nodeCount (treeIn m) defaultWords) (s .held), e)
 
     place : StashAt
     place = record { node = lowestFree nodeCount (treeIn m); holder = nodeWith nodeCount (treeIn m) defaultWords }
@@ -94,7 +94,7 @@ module _ (m : List ℕ) (r : Request) (q : StashRequest r) where
     left h =
         rw (
           lt-ltb (lowestFree nodeCount (treeIn m)) nodeCount (room m h),
-          lt-ltb (nodeWith nodeCount (treeIn m) defaultWords) nodeCount (holder-only nodeCount (treeIn m) (s .formed) .below),
+          lt-ltb (nodeWith nodeCount (treeIn m) defaultWords) nodeCount (s .held),
         )
 
     pub accepts : usedNodes m < nodeCount → Accepted (openRequest m r)

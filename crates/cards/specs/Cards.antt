@@ -10,7 +10,7 @@ use Rattle.layout.specs.Sizes.{nodeCount, imageWords, markAt, attestationAt}
 use Rattle.layout.specs.Words.{le32, zeros}
 use Rattle.layout.specs.Below.{countBelow}
 use Rattle.message.specs.Checksum.{checksumOf}
-use Rattle.tree.specs.Tree.{wellFormed}
+use Rattle.tree.specs.Tree.{defaultWords, nodeWith, wellFormed}
 use Rattle.tree.specs.Nodes.{treeIn}
 use Rattle.table.specs.Table.{numberOf}
 use Rattle.work.specs.Entries.{leftOf, storeNumber}
@@ -33,12 +33,13 @@ pub record GivesOne (image : List ℕ) : Type 0 where
   pub updateBoot : (x : BootInputs) (verdict : Bool) → bootNumber (openUpdateBoot image x verdict .status) ≡ 1
   pub store : (w : Work) → storeNumber w image ≡ 1
 
--- an image at which a stash depends on the free nodes alone: the right length, mark 1, attestation on, well formed
+-- an image at which a stash depends on the free nodes alone: the right length, mark 1, attestation on, well formed, a holder of the default handle
 pub record Serving (image : List ℕ) : Type 0 where
   pub size : length image ≡ imageWords
   pub done : getD image markAt 0 ≡ 1
   pub on : getD image attestationAt 0 ≡ 1
   pub formed : wellFormed nodeCount (treeIn image) ≡ true
+  pub held : nodeWith nodeCount (treeIn image) defaultWords < nodeCount
 
 -- an image whose attestation is off, whatever its nodes hold
 pub record SwitchedOff (image : List ℕ) : Type 0 where

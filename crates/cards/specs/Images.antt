@@ -6,7 +6,7 @@ use mathlib.Core.Option.{some}
 use lib.ListN.{set, replicate}
 use Rattle.layout.specs.Words.{bytes4, zeros}
 use Rattle.nodes.specs.Record.{Node}
-use Rattle.opening.specs.Values.{childNode}
+use Rattle.opening.specs.Values.{stashedNode}
 use Rattle.opening.specs.Tasks.{Request, requestOf, Measurement, Task, stash, coldBoot}
 use Rattle.history.specs.Ledger.{Contents, stateOf, imageOf}
 use Rattle.respond.specs.Program.{programBoot}
@@ -28,7 +28,7 @@ imageWith k = imageOf 1 1 (stateOf (historyOf k))
 
 -- where two nodes are used, node 1 is the stash's; here its parent is itself in place of node 0
 abbrev pub ownParent : Node
-ownParent = childNode 1 zeroMeasurement
+ownParent = stashedNode 1 zeroMeasurement
 
 abbrev pub looped : Contents
 looped =
@@ -40,4 +40,4 @@ ownParentImage = imageOf 1 1 looped
 
 -- a stash of 56 zero bytes with card 3's checksum, from caller 0
 abbrev pub zeroStash : Request
-zeroStash = requestOf 0x4D454153 (bytes4 0xFFFFFEDA ++ zeros 56) 0 [] false
+zeroStash = requestOf 0x4D454153 (bytes4 0xFFFFFEDA ++ zeros 56) 0 [] false []

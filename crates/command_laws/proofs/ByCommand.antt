@@ -10,19 +10,22 @@ use mathlib.Core.List.{List, [], _∷_}
 use mathlib.Core.Option.{none}
 use lib.Dec.{eqb, leb}
 use lib.ListN.{length, take, drop, length-take, length-drop}
+use Rattle.opening.specs.Orders.{commandIn}
 use lib.Seq.{length-take-le}
 use borrow.Author.Tests.{lt-ltb, leb-false, eqb-true}
 use Rattle.layout.specs.Sizes.{nodeCount, answerMax, extendable}
 use Rattle.layout.specs.Words.{bytes4}
 use Rattle.layout.specs.Refusals.{notWellFormed}
 use Rattle.tree.specs.Tree.{Tree, wellFormed, lowestFree, nodeWith, defaultWords}
-use Rattle.tree.proofs.WellFormed.{holder-only}
+use Rattle.tree.specs.Nodes.{treeIn}
 use Rattle.table.specs.Table.{numberOf, indexOk}
-use Rattle.opening.specs.Tasks.{Request, Task, noStores, View}
-use Rattle.opening.specs.Rules.{Verdict, refuse, decline, Rule, Command, stashMeasurement, disableAttestation, identityKey, verifySignature, extendRegister, unknownCommand, commandOf, stashCode, disableCode, identityCode, verifyCode, extendCode, stashLength, extendLength, extensionIn, answerOf, ruled}
+use Rattle.opening.specs.Tasks.{Request, Task, noStores, keptBoot, disableCommand, disablingBoot, stash, update, coldBoot, extension, invoke, View}
+use Rattle.opening.specs.Rules.{Verdict, refuse, decline, Rule, Command, stashMeasurement, disableAttestation, identityKey, verifySignature, extendRegister, invokeDpe, unknownCommand, commandOf, stashCode, disableCode, identityCode, verifyCode, extendCode, invokeCode, stashLength, extendLength, extensionIn, orderIn, orderRules, answerOf, ruled}
 use Rattle.opening.specs.Works.{factsOf}
 use Rattle.opening.proofs.Decided.{NoneApply, negated}
 use Rattle.opening.proofs.Recorded.{Told}
+use Rattle.opening.proofs.Ordered.{command-sized, order-told}
+use Rattle.command_laws.proofs.ByOrder.{order-index}
 
 -- ---- refusal 11
 
@@ -40,13 +43,27 @@ No11 (r ∷ rs) = (r .applies ≡ true → Not11 (r .verdict)) × (r .applies �
 -- a task that does not look at the nodes, and stores only if it disables
 pub record Steady (t : Task) : Type 0 where
   pub same : (a b : Tree) → factsOf t .kind a ≡ factsOf t .kind b
-  pub index : (a : Tree) → indexOk (factsOf t .kind a) ≡ true
+  pub index : (a : Tree) (node : List ℕ) → indexOk (factsOf t .kind a) node ≡ true
   pub quiet : (a : Tree) → 0 < numberOf (factsOf t .kind a) → factsOf t .disables ≡ true
+  pub whole : factsOf t .frees ≡ false
+
+-- none of a tree command's own rules applies
+abbrev pub Granted : Tree → Task → Type 0
+Granted t noStores = Unit {0}
+Granted t keptBoot = Unit {0}
+Granted t disableCommand = Unit {0}
+Granted t disablingBoot = Unit {0}
+Granted t (stash x) = Unit {0}
+Granted t (update x) = Unit {0}
+Granted t (coldBoot x) = Unit {0}
+Granted t (extension x) = Unit {0}
+Granted t (invoke o) = NoneApply (orderRules t o)
 
 -- a command's task, where no rule applied
 pub record Served (v : View) (t : Task) : Type 0 where
-  -- its indices are fine at the nodes that the rules saw
-  pub index : indexOk (factsOf t .kind (v .nodes)) ≡ true
+  -- its indices are fine at the nodes that the rules saw, whatever else the image holds
+  pub index : (image : List ℕ) → treeIn image ≡ v .nodes → indexOk (factsOf t .kind (v .nodes)) (factsOf t .values image .node) ≡ true
+  pub granted : Granted (v .nodes) t
   -- it is no boot's
   pub request : factsOf t .boot ≡ none
   pub steady : v .on ≡ false → Steady t
@@ -64,8 +81,8 @@ pub record CommandLaw (c : Command) : Type 0 where
   -- 11 is refused only while on, where the nodes are not well formed
   pub no-11 : (v : View) (r : Request) → (v .on ≡ true → wellFormed nodeCount (v .nodes) ≡ true) → No11 (c .rules v r)
   pub serves : (v : View) (r : Request) → NoneApply (c .rules v r) → Served v (c .task r)
-  -- the digests of what it does have 48 bytes
-  pub told : (r : Request) → c .lengthOk (r .bytes) ≡ true → Told (c .task r)
+  -- the digests of what it does have 48 bytes, and the handles 20
+  pub told : (v : View) (r : Request) → c .lengthOk (r .bytes) ≡ true → NoneApply (c .rules v r) → Told (c .task r)
 
 -- checksum and status, eight bytes, and at most the two halves of a key
 short : (rest : List ℕ) → length rest ≤ 96 → length (answerOf rest) ≤ answerMax
@@ -83,9 +100,14 @@ digest-long l n e h = length-take-le 48 (drop 8 l) (omega (arith, length-drop 8 
 idle : (v : View) → Served v noStores
 unfolding indexOk numberOf
 idle v =
-    record { index = refl; request = refl; steady = λ o. record { same = λ a b. refl; index = λ a. refl; quiet = λ a p. absurd (not-suc-le-zero p) } }
+    record {
+      index = λ m e. refl;
+      granted = tt;
+      request = refl;
+      steady = λ o. record { same = λ a b. refl; index = λ a m. refl; quiet = λ a p. absurd (not-suc-le-zero p); whole = refl };
+    }
 
--- a stash rests on its indices, which well-formed nodes with a free place have
+-- a stash rests on its indices: a holder and a free place
 stash-law : CommandLaw stashMeasurement
 unfolding indexOk
 stash-law =
@@ -93,20 +115,20 @@ stash-law =
       short = λ r. short (bytes4 0) (omega arith);
       blind = λ r d s t. refl;
       no-11 = λ v r f.
-          (λ e. tt, λ e. (λ q. absurd (true≢false (sym q ∙ ap not (f (negated (v .on) e)))), λ q. (λ z. tt, λ z. tt)));
+          (λ e. tt, λ e. (λ q. absurd (true≢false (sym q ∙ ap not (f (negated (v .on) e)))), λ q. (λ z. tt, λ z. (λ y. tt, λ y. tt))));
       serves = λ v r n.
           let t = v .nodes in
-          let free : leb nodeCount (lowestFree nodeCount t) ≡ false = n .1 .1 .0 in
           record {
-            index =
+            index = λ m e.
                 rw (
-                  lt-ltb (lowestFree nodeCount t) nodeCount (leb-false nodeCount (lowestFree nodeCount t) free),
-                  lt-ltb (nodeWith nodeCount t defaultWords) nodeCount (holder-only nodeCount t (negated (wellFormed nodeCount t) (n .1 .0)) .below),
+                  lt-ltb (lowestFree nodeCount t) nodeCount (leb-false nodeCount (lowestFree nodeCount t) (n .1 .1 .1 .0)),
+                  lt-ltb (nodeWith nodeCount t defaultWords) nodeCount (leb-false nodeCount (nodeWith nodeCount t defaultWords) (n .1 .1 .0)),
                 );
+            granted = tt;
             request = refl;
             steady = λ o. absurd (true≢false (sym (negated (v .on) (n .0)) ∙ o));
           };
-      told = λ r e. digest-long (r .bytes) stashLength (eqb-true (length (r .bytes)) stashLength e) (omega arith);
+      told = λ v r e n. digest-long (r .bytes) stashLength (eqb-true (length (r .bytes)) stashLength e) (omega arith);
     }
 
 disable-law : CommandLaw disableAttestation
@@ -117,8 +139,13 @@ disable-law =
       blind = λ r d s t. refl;
       no-11 = λ v r f. tt;
       serves = λ v r n.
-          record { index = refl; request = refl; steady = λ o. record { same = λ a b. refl; index = λ a. refl; quiet = λ a p. refl } };
-      told = λ r e. tt;
+          record {
+            index = λ m e. refl;
+            granted = tt;
+            request = refl;
+            steady = λ o. record { same = λ a b. refl; index = λ a m. refl; quiet = λ a p. refl; whole = refl };
+          };
+      told = λ v r e n. tt;
     }
 
 identity-law : CommandLaw identityKey
@@ -128,7 +155,7 @@ identity-law =
       blind = λ r d s t. refl;
       no-11 = λ v r f. (λ e z. omega arith, λ e. tt);
       serves = λ v r n. idle v;
-      told = λ r e. tt;
+      told = λ v r e n. tt;
     }
 
 verify-law : CommandLaw verifySignature
@@ -138,7 +165,7 @@ verify-law =
       blind = λ r d s t. refl;
       no-11 = λ v r f. (λ e z. omega arith, λ e. tt);
       serves = λ v r n. idle v;
-      told = λ r e. tt;
+      told = λ v r e n. tt;
     }
 
 -- an extension rests on its register, and is served only while on
@@ -151,27 +178,56 @@ extend-law =
       no-11 = λ v r f. (λ e z. omega arith, λ e. (λ q z. omega arith, λ q. tt));
       serves = λ v r n.
           record {
-            index = negated (extendable (extensionIn r .register)) (n .0);
+            index = λ m e. negated (extendable (extensionIn r .register)) (n .0);
+            granted = tt;
             request = refl;
             steady = λ o. absurd (true≢false (sym (negated (v .on) (n .1 .0)) ∙ o));
           };
-      told = λ r e. digest-long (r .bytes) extendLength (eqb-true (length (r .bytes)) extendLength e) (omega arith);
+      told = λ v r e n. digest-long (r .bytes) extendLength (eqb-true (length (r .bytes)) extendLength e) (omega arith);
+    }
+
+-- a tree command rests on what its rules saw, and is served only while on
+invoke-law : CommandLaw invokeDpe
+invoke-law =
+    record {
+      short = λ r. short (bytes4 0) (omega arith);
+      blind = λ r d s t. refl;
+      no-11 = λ v r f. (
+        λ e. tt,
+        λ e. (
+          λ q. absurd (true≢false (sym q ∙ ap not (f (negated (v .on) e)))),
+          λ q. (λ z. tt, λ z. (λ z. tt, λ z. (λ z. tt, λ z. (λ z. tt, λ z. (λ z. tt, λ z. (λ z. tt, λ z. (λ z. tt, λ z. tt))))))),
+        ),
+      );
+      serves = λ v r n.
+          let o = orderIn r in
+          record {
+            index = order-index (v .nodes) (o .command) (o .fresh) (o .caller) (n .1 .1);
+            granted = n .1 .1;
+            request = refl;
+            steady = λ off. absurd (true≢false (sym (negated (v .on) (n .0)) ∙ off));
+          };
+      told = λ v r e n.
+          let c = commandIn (drop 8 (r .bytes)) in
+          order-told (v .nodes) c (r .fresh) (command-sized (drop 8 (r .bytes))) (n .1 .1 .0) (n .1 .1 .1 .1 .1 .0);
     }
 
 unknown-law : CommandLaw unknownCommand
 unknown-law =
-    record { short = λ r. short [] (omega arith); blind = λ r d s t. refl; no-11 = λ v r f. tt; serves = λ v r n. idle v; told = λ r e. tt }
+    record { short = λ r. short [] (omega arith); blind = λ r d s t. refl; no-11 = λ v r f. tt; serves = λ v r n. idle v; told = λ v r e n. tt }
 
 -- of whatever command a code has
 pub command-law : (code : ℕ) → CommandLaw (commandOf code)
-command-law code = go (eqb code stashCode) (eqb code disableCode) (eqb code identityCode) (eqb code verifyCode) (eqb code extendCode)
+command-law code =
+    go (eqb code stashCode) (eqb code disableCode) (eqb code identityCode) (eqb code verifyCode) (eqb code extendCode) (eqb code invokeCode)
   where
-    go : (v w x y z : Bool)
-        → CommandLaw (cond v stashMeasurement
-        (cond w disableAttestation (cond x identityKey (cond y verifySignature (cond z extendRegister unknownCommand)))))
-    go true w x y z = stash-law
-    go false true x y z = disable-law
-    go false false true y z = identity-law
-    go false false false true z = verify-law
-    go false false false false true = extend-law
-    go false false false false false = unknown-law
+    go : (u v w x y z : Bool)
+        → CommandLaw (cond u stashMeasurement
+        (cond v disableAttestation (cond w identityKey (cond x verifySignature (cond y extendRegister (cond z invokeDpe unknownCommand))))))
+    go true v w x y z = stash-law
+    go false true w x y z = disable-law
+    go false false true x y z = identity-law
+    go false false false true y z = verify-law
+    go false false false false true z = extend-law
+    go false false false false false true = invoke-law
+    go false false false false false false = unknown-law

@@ -1,2 +1,3 @@
 -- The laws of each command.
+pub mod ByOrder
 pub mod ByCommand

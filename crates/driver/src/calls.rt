@@ -34,6 +34,7 @@ fn act(given: Operation, input: &[u8], image: &mut [u32], hand: InHand, buffer: 
         given.caller,
         front,
         given.verdict,
+        back,
         front,
         middle,
         back,

@@ -151,12 +151,13 @@ fn boot(kind: u8, input: &[u8], at: usize, more: usize) -> Operation
     read
 }
 
-// A request: code, caller and verdict, then the handoff table and the request.
+// A request: code, caller and verdict, then the handoff table, the request and the fresh handle.
 fn request(input: &[u8], at: usize) -> Operation
     requires { ⌜ at < inputBytes ⌝ }
     ensures { λ r. ⌜ Formed at r ⌝ }
 {
-    let mut read = with_strings(REQUEST, input, at, at + 10);
+    let strings = with_strings(REQUEST, input, at, at + 10);
+    let mut read = with_third(strings, input, at, 0);
     read.code = read32(input, at + 1);
     read.caller = read32(input, at + 5);
     read.verdict = byte(input, at, 9) == 1;

@@ -13,12 +13,16 @@ use crate::output::put_image;
 use crate::output::put32;
 use crate::state::Operated;
 use crate::state::done;
+use layout::NODES;
 use machine::InHand;
 use slices::little_endian::read32;
 use table::Kind;
 use table::coding::decode;
 use table::coding::encode;
 use work::Work;
+
+// The part of a destroy's first freed index.
+const FREED_PART: u32 = 16;
 
 // Words of the input into the front of the memory.
 fn load(input: &[u8], from: usize, memory: &mut [u32], count: usize)
@@ -60,14 +64,39 @@ fn put_left(hand: InHand) -> bool {
     put_count(work.left())
 }
 
-// A kind with another first index, where it has one: a stash's node, an update's root, an extension's register.
-fn with_first(kind: Kind, value: usize) -> Kind {
+// Whether a kind is a destroy, whose one number is no index.
+fn is_destroy(kind: Kind) -> bool {
+    match kind {
+        Kind::Destroy(_) => true,
+        _ => false,
+    }
+}
+
+// A kind with another first number, where it has one.
+fn with_number(kind: Kind, value: usize) -> Kind {
     let mut coded = encode(kind);
     coded.first = value;
     decode(coded)
 }
 
-// A kind with another second index, where it has one: a stash's old holder.
+// A kind with another first index, where it has one: the node of a stash, a derive, an extend or a rotate, an
+// update's root, an extension's register.
+fn with_first(kind: Kind, value: usize) -> Kind {
+    if is_destroy(kind) {
+        return kind;
+    }
+    with_number(kind, value)
+}
+
+// A destroy with another number of freed nodes.
+fn with_count(kind: Kind, value: usize) -> Kind {
+    if is_destroy(kind) {
+        return with_number(kind, value);
+    }
+    kind
+}
+
+// A kind with another second index, where it has one: the node that a stash or a derive retires.
 fn with_second(kind: Kind, value: usize) -> Kind {
     let mut coded = encode(kind);
     coded.second = value;
@@ -95,13 +124,36 @@ fn with_kind(work: Work, kind: Kind) -> Work {
     }
 }
 
-// A kind with another index, the first or the second.
+// A kind with another index, the first or the second, or another number of freed nodes.
 fn with_index(kind: Kind, part: u32, value: usize) -> Kind {
     match part {
         1 => with_first(kind, value),
         2 => with_second(kind, value),
+        4 => with_count(kind, value),
         _ => kind,
     }
+}
+
+// A word of an index: one that does not fit is beyond the nodes like any other, and takes the highest.
+fn index_word(value: usize) -> u32 {
+    if 4294967295 < value {
+        return 4294967295;
+    }
+    value as u32
+}
+
+// A destroy with another freed index.
+fn with_freed(work: Work, i: usize, value: usize) -> Work {
+    let kind = work.kind;
+    if !is_destroy(kind) {
+        return work;
+    }
+    if NODES <= i {
+        return work;
+    }
+    let mut changed = work;
+    changed.node[i] = index_word(value);
+    changed
 }
 
 // A work with another position.
@@ -118,13 +170,17 @@ fn with_length(work: Work, value: usize) -> Work {
     changed
 }
 
-// A work with one part set: 0 position, 1 first index, 2 second index, 3 answer length.
+// A work with one part set: 0 position, 1 first index, 2 second index, 3 answer length, 4 the number of freed
+// nodes, and from FREED_PART on the freed indices.
 fn with_part(work: Work, part: u32, value: usize) -> Work {
     if part == 0 {
         return with_position(work, value);
     }
     if part == 3 {
         return with_length(work, value);
+    }
+    if FREED_PART <= part {
+        return with_freed(work, (part - FREED_PART) as usize, value);
     }
     let kind = work.kind;
     with_kind(work, with_index(kind, part, value))

@@ -117,7 +117,7 @@ workOf l =
       inputs = bytesAt inputBytes l inputsWord;
     }
 
--- what an answer's taking asks of a work: no prepared word and no input
+-- what an answer's taking asks of a work: of the prepared words the node's alone, and no input
 unfoldable pub answeringOf : Work → Work
 answeringOf w =
     record {
@@ -125,7 +125,7 @@ answeringOf w =
       position = w .position;
       register = zeros registerWords;
       journey = zeros registerWords;
-      node = zeros nodeWords;
+      node = w .node;
       secret = zeros registerWords;
       answer = w .answer;
       «answer_len» = w .«answer_len»;

@@ -85,7 +85,7 @@ fn head(
 }
 
 fn head_of(kind: Kind, position: usize, answer_len: usize) -> [u32; REGISTER_IN]
-    ensures { λ r. ⌜ r ≡ headOf (standing kind position «answer_len») ⌝ }
+    ensures { λ r. ⌜ r ≡ headOf (standing kind position «answer_len» []) ⌝ }
 {
     let coded = encode(kind);
     head(

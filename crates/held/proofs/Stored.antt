@@ -19,11 +19,11 @@ use Rattle.work.specs.declared.Work.{Work}
 use Rattle.work.specs.declared.Stored.{Stored}
 use Rattle.table.specs.Table.{numberOf}
 use Rattle.work.specs.Entries.{leftOf, moved, storeNumber, storeResult, storeImage}
-use Rattle.work.specs.Parts.{storing}
+use Rattle.work.specs.Parts.{storing, standing}
 use Rattle.table.specs.Coding.{codedAs, isKind}
 use Rattle.table.proofs.ByKind.{no-kind}
 use Rattle.work.proofs.Shape.{left-position}
-use Rattle.work.proofs.Parts.{storingOf, number-storing, image-storing}
+use Rattle.work.proofs.Parts.{storingOf, standingOf, left-standing, number-storing, image-storing}
 use Rattle.flat.specs.Flat.{registerWord, journeyWord, nodeWord, secretWord, answerWord, inputsWord, workSize, lowOf, highOf, longAt, positionOf, bytesAt, workOf}
 use Rattle.flat.specs.Forms.{storeNumberIn, withPosition, storeWords, storeHand, storeImageIn}
 use Rattle.flat.proofs.Back.{joined-back}
@@ -48,6 +48,14 @@ module _ (l : List ℕ) (h : length l ≡ workSize) (kind : Kind) (p n : ℕ) (a
         part-within nodeWords l nodeWord (omega arith),
         part-within registerWords l secretWord (omega arith),
       )
+
+  -- of which the node's alone say what is left
+  standing-parts : standing kind p n (take nodeWords (drop nodeWord l)) ≡ standingOf (workOf l)
+  unfolding workOf
+  standing-parts = rw (a, b, c, part-within nodeWords l nodeWord (omega arith))
+
+  pub left-parts : leftOf (standing kind p n (take nodeWords (drop nodeWord l))) ≡ leftOf (workOf l)
+  left-parts = ap leftOf standing-parts ∙ left-standing (workOf l)
 
   pub number-parts : (image : List ℕ) → storeNumber partsIn image ≡ storeNumber (workOf l) image
   number-parts image = ap (λ (w : Work). storeNumber w image) parts ∙ number-storing (workOf l) image

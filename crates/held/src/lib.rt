@@ -10,6 +10,7 @@ use crate::reading::answer_in;
 use crate::reading::answer_len_in;
 use crate::reading::inputs_in;
 use crate::reading::kind_in;
+use crate::reading::node_in;
 use crate::reading::position_in;
 use flat::WORK_WORDS;
 use flat::words::ANSWER_IN;
@@ -22,7 +23,6 @@ use flat::words::SECRET_IN;
 use flat::words::WRONG_WORK;
 use journal_bytes::write::Taken;
 use layout::INPUT_BYTES;
-use layout::NODE_WORDS;
 use layout::REGISTER_WORDS;
 use work::Work;
 use work::entry::take;
@@ -37,7 +37,12 @@ pub fn left(work: &[u32]) -> usize
     if work.len() != WORK_WORDS {
         return 0;
     }
-    lent::left(kind_in(work), position_in(work), answer_len_in(work))
+    lent::left(
+        kind_in(work),
+        position_in(work),
+        answer_len_in(work),
+        &work[NODE_IN..SECRET_IN],
+    )
 }
 
 // One store of the work that the words are; the words stay.
@@ -88,18 +93,19 @@ pub fn store(work: &mut [u32], image: &mut [u32]) -> u32
     0
 }
 
-// What an answer's taking asks of the words: no prepared word and no input.
+// What an answer's taking asks of the words: of the prepared ones the node's alone, and no input.
 fn answering(work: &[u32]) -> Work
     ensures { λ r. ⌜ r ≡ answeringOf (workOf (now (work .entry))) ⌝ }
 {
     let kind = kind_in(work);
+    let node = node_in(work);
     let answer = answer_in(work);
     Work {
         kind,
         position: position_in(work),
         register: [0u32; REGISTER_WORDS],
         journey: [0u32; REGISTER_WORDS],
-        node: [0u32; NODE_WORDS],
+        node,
         secret: [0u32; REGISTER_WORDS],
         answer,
         answer_len: answer_len_in(work),

@@ -1,5 +1,5 @@
-// The work that any words are: its kind, position, answer, answer's length and inputs. What is past the end
-// is 0.
+// The work that any words are: its kind, position, node, answer, answer's length and inputs. What is past the
+// end is 0.
 ghost use mathlib.Core.Path.{_≡_};
 ghost use Prim.Native.Nat.{_<_};
 ghost use lib.ListN.{length};
@@ -8,10 +8,12 @@ use flat::words::ANSWER_IN;
 use flat::words::FIRST_IN;
 use flat::words::INPUTS_IN;
 use flat::words::LENGTH_IN;
+use flat::words::NODE_IN;
 use flat::words::POSITION_IN;
 use flat::words::SECOND_IN;
 use layout::ANSWER_MAX;
 use layout::INPUT_BYTES;
+use layout::NODE_WORDS;
 use packing::byte_of;
 use packing::word;
 use table::Kind;
@@ -63,6 +65,18 @@ pub(crate) fn answer_len_in(words: &[u32]) -> usize
     ensures { λ r. ⌜ r ≡ workOf (now (words .entry)) .«answer_len» ⌝ }
 {
     long_in(words, LENGTH_IN)
+}
+
+pub(crate) fn node_in(words: &[u32]) -> [u32; NODE_WORDS]
+    ensures { λ r. ⌜ r ≡ workOf (now (words .entry)) .node ⌝ }
+{
+    let mut out = [0u32; NODE_WORDS];
+    let mut k = 0;
+    while k < NODE_WORDS {
+        out[k] = word(words, NODE_IN + k);
+        k += 1;
+    }
+    out
 }
 
 // The bytes of the words from an index on, as many as there is room for.

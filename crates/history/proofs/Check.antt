@@ -15,18 +15,18 @@ use Rattle.layout.specs.Below.{allBelow}
 use Rattle.message.specs.Checksum.{checksumOf}
 use Rattle.sha384.specs.Entries.{extended}
 use Rattle.layout.proofs.Bounded.{first-on, first-here}
-use Rattle.tree.specs.Tree.{defaultWords, wellFormed, nodeWith, lowestFree}
-use Rattle.tree.proofs.WellFormed.{Formed, formed-true, holder-found}
+use Rattle.tree.specs.Tree.{defaultWords, sameHandle, hasHandle, wellFormed, nodeWith, lowestFree}
+use Rattle.tree.proofs.WellFormed.{Formed, default-live, formed-true, with-found}
 use Rattle.nodes.specs.Record.{Node, nodeRow, placeRow, retiredHandle, withHandle, treeOf}
 use Rattle.table.specs.Table.{numberOf}
 use Rattle.work.specs.Entries.{leftOf}
 use Rattle.table.specs.declared.Kind.the-variants.{Disabling, Stash, Update, Extension}
 use Rattle.opening.specs.Tasks.{Request, requestOf, BootInputs, bootOf, Measurement, Task, stash, coldBoot}
 use Rattle.opening.specs.Rules.{wrongChecksum, extendCode, stashCode, measurementIn, answerOf, inputsOk}
-use Rattle.opening.specs.Values.{extendedByBoot, childNode, rootNode}
+use Rattle.opening.specs.Values.{extendedByBoot, stashedNode, rootNode}
 use Rattle.opening.specs.Openings.{openColdBoot, bootNumber}
 use Rattle.history.specs.Calls.{Call, request, updateBoot, store, powerCut, Hand, Machine, Step, step, run}
-use Rattle.history.specs.Ledger.{Job, Ledger, changed, nextChain, stateOf, chainOf, nodeRows, viewOf, tears, letGo, ledgerStep, firstLedger}
+use Rattle.history.specs.Ledger.{Job, Ledger, changed, nextChain, kindAt, stateOf, chainOf, nodeRows, viewOf, tears, letGo, ledgerStep, firstLedger}
 use Rattle.history.specs.Demand.{Shut, wasAccepted, bootEnded, endsBoot, afterColdBoot}
 use Rattle.history.proofs.Good.{formed-cold}
 use Rattle.history.proofs.Ground.{isBoot}
@@ -80,7 +80,7 @@ arguments = bytes4 extendFirst ++ digest
 
 pub extension-calls : List Call
 extension-calls =
-    request (requestOf extendCode (bytes4 (checksumOf extendCode arguments) ++ arguments) 0 [] false) ∷ replicate (numberOf (Extension extendFirst)) store
+    request (requestOf extendCode (bytes4 (checksumOf extendCode arguments) ++ arguments) 0 [] false []) ∷ replicate (numberOf (Extension extendFirst)) store
 
 -- a measurement of type "HOUR" and svn 0x04030201, stashed to its end
 pub svn : ℕ
@@ -90,7 +90,7 @@ stash-arguments : List ℕ
 stash-arguments = bytes4 0x52554F48 ++ (digest ++ bytes4 svn)
 
 stash-request : Request
-stash-request = requestOf stashCode (bytes4 (checksumOf stashCode stash-arguments) ++ stash-arguments) 5 [] false
+stash-request = requestOf stashCode (bytes4 (checksumOf stashCode stash-arguments) ++ stash-arguments) 5 [] false []
 
 pub stash-calls : List Call
 stash-calls = request stash-request ∷ replicate (numberOf (Stash (record { node = 1; holder = 0 }))) store
@@ -105,15 +105,16 @@ coldRegisters =
 coldNodes : List (Option Node)
 coldNodes = set (replicate nodeCount none) 0 (some (rootNode (extendedByBoot (zeros 48) inputs)))
 
-cold-formed : Formed nodeCount (treeOf coldNodes) 0 0
+cold-formed : Formed nodeCount (treeOf coldNodes) 0
 unfolding coldNodes
 cold-formed = formed-cold nodeCount (omega arith) (extendedByBoot (zeros 48) inputs)
 
 cold-well : wellFormed nodeCount (treeOf coldNodes) ≡ true
-cold-well = formed-true nodeCount (omega arith) (treeOf coldNodes) 0 0 cold-formed
+cold-well = formed-true nodeCount (omega arith) (treeOf coldNodes) 0 cold-formed
 
 cold-holder : nodeWith nodeCount (treeOf coldNodes) defaultWords ≡ 0
-cold-holder = holder-found nodeCount (omega arith) (treeOf coldNodes) 0 0 cold-formed
+unfolding hasHandle sameHandle allBelow coldNodes wordsAt tab
+cold-holder = with-found nodeCount (treeOf coldNodes) 0 cold-formed defaultWords default-live 0 (omega arith) refl
 
 cold-free : lowestFree nodeCount (treeOf coldNodes) ≡ 1
 unfolding lowestFree coldNodes
@@ -128,16 +129,16 @@ stashJob = record { task = stash measured; stores = numberOf (Stash (record { no
 
 stash-opened : ledgerStep (firstLedger inputs) (request stash-request) .state
     ≡ record { history = coldBoot inputs ∷ []; hand = some stashJob; made = 0; torn = false; unfinished = false }
-unfolding ledgerStep letGo viewOf stateOf nextChain wrongChecksum checksumOf inputs digest stash-arguments stash-request svn numberOf coldNodes measured stashJob
-stash-opened = rw (cold-well, cold-free)
+unfolding ledgerStep letGo viewOf stateOf nextChain wrongChecksum checksumOf inputs digest stash-arguments stash-request svn numberOf coldNodes measured stashJob kindAt
+stash-opened = rw (cold-well, cold-free, cold-holder)
 
 stash-counts : run ledgerStep (firstLedger inputs) stash-calls
     ≡ record { history = coldBoot inputs ∷ stash measured ∷ []; hand = some stashJob; made = stashJob .stores; torn = false; unfinished = false }
-unfolding ledgerStep stash-calls stashJob numberOf
+unfolding ledgerStep stash-calls stashJob numberOf kindAt
 stash-counts = ap (λ (b : Ledger). run ledgerStep b (replicate (numberOf (Stash (record { node = 1; holder = 0 }))) store)) stash-opened
 
 stashedNodes : List (Option Node)
-stashedNodes = set (set coldNodes 1 (some (childNode 0 measured))) 0 (changed (withHandle retiredHandle) (getD coldNodes 0 none))
+stashedNodes = set (set coldNodes 1 (some (stashedNode 0 measured))) 0 (changed (withHandle retiredHandle) (getD coldNodes 0 none))
 
 stashed-nodes : stateOf (coldBoot inputs ∷ stash measured ∷ []) .chain .nodes ≡ stashedNodes
 unfolding stateOf nextChain coldNodes stashedNodes
@@ -154,36 +155,36 @@ module _ (before : List ℕ) (e : length before ≡ imageWords) where
 
   -- a boot that is kept ends at its opening
   pub kept-ends : endsBoot (step (run step (afterColdBoot before inputs) []) (updateBoot inputs false)) ≡ true
-  unfolding ledgerStep letGo inputsOk allBelow inputs numberOf
+  unfolding ledgerStep letGo inputsOk allBelow inputs numberOf kindAt
   kept-ends = ends [] (updateBoot inputs false) refl
 
   pub whole-ends : endsBoot (step (run step (afterColdBoot before inputs) whole-calls) store) ≡ true
-  unfolding ledgerStep letGo inputsOk allBelow inputs whole-calls numberOf
+  unfolding ledgerStep letGo inputsOk allBelow inputs whole-calls numberOf kindAt
   whole-ends = ends whole-calls store refl
 
   pub torn-ends : endsBoot (step (run step (afterColdBoot before inputs) torn-calls) store) ≡ true
-  unfolding ledgerStep letGo inputsOk allBelow inputs torn-calls numberOf
+  unfolding ledgerStep letGo inputsOk allBelow inputs torn-calls numberOf kindAt
   torn-ends = ends torn-calls store refl
 
   -- what demand 3 says there: attestation is on after the one, and shut for good after the other
   pub whole-on : getD (step (run step (afterColdBoot before inputs) whole-calls) store .state .image) attestationAt 0 ≡ 1
-  unfolding ledgerStep letGo inputsOk allBelow inputs whole-calls numberOf
+  unfolding ledgerStep letGo inputsOk allBelow inputs whole-calls numberOf kindAt
   whole-on = demand3 before inputs (cold-opens before e) whole-calls .kept store whole-ends .on refl .1 refl
 
   pub torn-shut : (later : List Call) → Shut (run step (step (run step (afterColdBoot before inputs) torn-calls) store .state) later .image)
-  unfolding ledgerStep letGo inputsOk allBelow inputs torn-calls numberOf
+  unfolding ledgerStep letGo inputsOk allBelow inputs torn-calls numberOf kindAt
   torn-shut later = demand3 before inputs (cold-opens before e) torn-calls .shut store torn-ends refl later
 
   -- and that an extension is in its register, and in no other
   pub extension-counts : take (registerCount * registerWords) (drop registersAt (run step (afterColdBoot before inputs) extension-calls .image))
       ≡ flat (map words48 (set coldRegisters extendFirst (extended (zeros 48) digest)))
-  unfolding ledgerStep letGo viewOf stateOf nextChain wrongChecksum checksumOf extendable inputsOk allBelow inputs digest arguments extension-calls coldRegisters numberOf
+  unfolding ledgerStep letGo viewOf stateOf nextChain wrongChecksum checksumOf extendable inputsOk allBelow inputs digest arguments extension-calls coldRegisters numberOf kindAt
   extension-counts = demand3 before inputs (cold-opens before e) extension-calls .counted refl refl .registers
 
   -- and that a stash's svn is word 34 of its node, and the root's is 0
   pub svn-counts : (getD (run step (afterColdBoot before inputs) stash-calls .image) (nodeAt 1 + svnAt) 0 ≡ svn)
       × (getD (run step (afterColdBoot before inputs) stash-calls .image) (nodeAt 0 + svnAt) 0 ≡ 0)
-  unfolding coldNodes stashedNodes measured stashJob stash-request inputs digest stash-arguments svn checksumOf numberOf nodeRow wordsAt tab zeros
+  unfolding coldNodes stashedNodes measured stashJob stash-request inputs digest stash-arguments svn checksumOf numberOf nodeRow wordsAt tab zeros kindAt
   svn-counts = (at (nodeWords + svnAt), at svnAt)
     where
       image : List ℕ

@@ -38,7 +38,7 @@ use Rattle.history.proofs.Good.{Good, good-cold}
 use Rattle.history.proofs.Stores.{registers-part, nodes-part}
 use Rattle.history.proofs.Runs.{planAt, offPlan, shut-store, counted, run-cold}
 use Rattle.history.proofs.Laws.{laws}
-use Rattle.history.proofs.Ground.{Ground, sound, locked, broken, attestationWord, imageAfter, ground-length, ruling}
+use Rattle.history.proofs.Ground.{Ground, sound, locked, broken, attestationWord, imageAfter, ground-length, torn-plan, ruling}
 use Rattle.history.proofs.Sim.{release, carried-left, Inv, empty, done, going, Related, sim, sim-run}
 
 -- ---- between works the image keeps the promise
@@ -130,9 +130,8 @@ shut-one (going {l} {p} {h} {j} {k} {t} base v g f w n x e c b) q s =
     len : length l ≡ imageWords
     len = ap length e ∙ length-apply (take k (planAt base (j .task))) base ∙ ground-length g
 
-    -- once torn, only a disabling has stores
     plans : planAt base (j .task) ≡ offPlan
-    plans = laws (j .task) .off (f .torn q .quiet (treeAt (stateOf h .chain)) (omega (arith, n))) base
+    plans = torn-plan h (j .task) (f .torn q) (omega (arith, n)) base
 
     place : putOf (p .work) ≡ getD offPlan k (put 0 0)
     place = put-plan (p .work) ∙ (λ i. getD ((w .plans ∙ plans) i) (w .carried .position i) (put 0 0))

@@ -1,11 +1,12 @@
 -- What holds of the chain after every history: sizes, a well-formed tree whose root has PCR3 as its current measurement, and cumulative measurements of 48
--- bytes. A cold boot makes it; a stash, an update and a new value of another register keep it, by the laws of any well-formed tree. Assumes nothing.
+-- bytes. A cold boot makes it; a new value of a register other than PCR3, a new node, another handle, other measurements of a node that is not the root,
+-- an update and freed nodes keep it, by the laws of any well-formed tree. Assumes nothing.
 use mathlib.Core.Path.{_≡_, refl, sym, ap, _∙_, subst, fun-ext}
 use mathlib.Core.Logic.{_≢_}
 use Prim.Native.Nat.{ℕ, zero, suc, _+_, _-_, _<_}
 use native.Mathlib.Omega.{arith}
 use native.Mathlib.Decide.{ℕ-discrete, decLt}
-use mathlib.Core.Bool.{true, true≢false}
+use mathlib.Core.Bool.{true, false, true≢false}
 use mathlib.Core.List.{List, []}
 use mathlib.Core.Option.{Option, none, some, Option·none-ne-some}
 use borrow.Author.Tests.{eq-eqb}
@@ -20,16 +21,17 @@ use Rattle.layout.proofs.Packing.{getD-part, bytes-words}
 use Rattle.layout.proofs.Tab.{length-zeros}
 use Rattle.sha384.proofs.Sizes.{Bytes, Measure, measure-extended, measure-each}
 use Rattle.tree.specs.Nodes.{word, treeIn, cumulativeIn}
-use Rattle.tree.specs.Tree.{Place, Tree, defaultWords, sameHandle, isRoot, rootOk, wellFormed, rootIn, nodeWith, lowestFree}
+use Rattle.tree.specs.Tree.{Place, Tree, defaultWords, retiredWords, sameHandle, isRoot, rootOk, wellFormed, rootIn, nodeWith, lowestFree}
 use Rattle.nodes.specs.Record.{Node, defaultHandle, retiredHandle, handleRow, newNode, withHandle, placeOf, treeOf}
 use Rattle.tree.proofs.Ways.{leads-root}
 use Rattle.tree.proofs.Rooted.{placed, placed-same, placed-other, root-used}
 use Rattle.nodes.proofs.Rows.{default-row, retired-row}
-use Rattle.tree.proofs.WellFormed.{Formed, same-refl, rehandled, stashed, formed-true, formed-stashed, top-found, holder-found, free-there}
+use Rattle.tree.proofs.Handles.{same-refl}
+use Rattle.tree.proofs.WellFormed.{Formed, default-live, has-used, with-there, with-else, others-lack, rehandled, stashed, formed-true, formed-rotated, formed-more, formed-stashed, top-found, free-there}
 use Rattle.opening.specs.Values.{rootNode}
 use Rattle.opening.specs.Tasks.{BootInputs, Measurement, stash, update, coldBoot}
 use Rattle.opening.specs.Openings.{rootMatches}
-use Rattle.history.specs.Ledger.{Chain, Contents, treeAt, changed, renewed, extendedAt, nextChain, imageOf}
+use Rattle.history.specs.Ledger.{Chain, Contents, treeAt, changed, renewed, changedAt, extendedAt, nextChain, imageOf}
 use Rattle.history.proofs.Encoded.{Shape, register-words, current-at, cumulative-words, encodes, tree-read}
 
 -- the current measurement of a place for a node
@@ -68,14 +70,14 @@ shape-of : (x : Chain) → Measures registerCount (x .registers) → length (x .
 shape-of x h e = record { registers = h .0; long = λ i l. h .1 i l .0; bytes = λ i l. h .1 i l .1; nodes = e }
 
 -- the cumulative measurement of every node
-abbrev Cumulatives : List (Option Node) → Type 0
+abbrev pub Cumulatives : List (Option Node) → Type 0
 Cumulatives ns = (i : ℕ) (n : Node) → getD ns i none ≡ some n → Measure (n .cumulative)
 
-abbrev MeasureOf : Option Node → Type 0
+abbrev pub MeasureOf : Option Node → Type 0
 MeasureOf none = Unit {0}
 MeasureOf (some n) = Measure (n .cumulative)
 
-cumulatives-set : (ns : List (Option Node)) (k : ℕ) (s : Option Node) → Cumulatives ns → MeasureOf s → Cumulatives (set ns k s)
+pub cumulatives-set : (ns : List (Option Node)) (k : ℕ) (s : Option Node) → Cumulatives ns → MeasureOf s → Cumulatives (set ns k s)
 cumulatives-set ns k s c h i n e = elim (ℕ-discrete i k) [
   | yes z ↦ elim (decLt k (length ns)) [
     | yes l ↦ subst MeasureOf (sym (getD-set-same ns k s none l) ∙ ap (λ (j : ℕ). getD (set ns k s) j none) (sym z) ∙ e) h
@@ -91,14 +93,25 @@ measure-changed f (some n) h = h n refl
 
 -- ---- what holds of every chain
 
--- top is the root's index, holder that of the default handle's node
+-- top is the root's index
 pub record Good (x : Chain) : Type 0 where
   pub shape : Shape x
   pub top : ℕ
-  pub holder : ℕ
-  pub formed : Formed nodeCount (treeAt x) top holder
+  pub formed : Formed nodeCount (treeAt x) top
   pub journey : currentOf (getD (x .nodes) top none) ≡ getD (x .registers) journeyRegister []
   pub cumulatives : Cumulatives (x .nodes)
+
+-- other nodes, of which the root is as it was
+pub good-nodes : (x : Chain) (g : Good x) (ns : List (Option Node)) → length ns ≡ nodeCount → Formed nodeCount (treeOf ns) (g .top)
+    → getD ns (g .top) none ≡ getD (x .nodes) (g .top) none → Cumulatives ns → Good (record { registers = x .registers; nodes = ns })
+good-nodes x g ns n f e c =
+    record {
+      shape = shape-of _ (measures-of x (g .shape)) n;
+      top = g .top;
+      formed = f;
+      journey = ap currentOf e ∙ g .journey;
+      cumulatives = c;
+    }
 
 -- ---- the tree of changed nodes
 
@@ -129,11 +142,6 @@ placed-swap h k p q t z = fun-ext (λ i. elim (ℕ-discrete i h) [
   ]
 ])
 
--- the default handle's words
-default-same : sameHandle (handleRow defaultHandle) defaultWords ≡ true
-unfolding zeros
-default-same = ap (λ (w : List ℕ). sameHandle w defaultWords) default-row ∙ same-refl defaultWords
-
 -- ---- after a cold boot
 
 blank-place : (n i : ℕ) → _≡_ {A = Option Node} (getD (replicate n none) i none) none
@@ -161,7 +169,7 @@ module _ (n : ℕ) (first : 0 < n) (journey : List ℕ) where
   unfolding isRoot
   cold-is-root = ap (λ (s : Option Node). isRoot (placeOf s)) cold-root
 
-  pub formed-cold : Formed n (treeOf coldNodes) 0 0
+  pub formed-cold : Formed n (treeOf coldNodes) 0
   unfolding isRoot rootOk
   formed-cold =
       record {
@@ -173,13 +181,7 @@ module _ (n : ℕ) (first : 0 < n) (journey : List ℕ) where
               child = λ i l u z. absurd (z (cold-used i u));
               way = λ i l u. leads-root n (treeOf coldNodes) (n - 1) i (ap (λ (j : ℕ). isRoot (treeOf coldNodes j)) (cold-used i u) ∙ cold-is-root);
             };
-        held =
-            record {
-              below = first;
-              used = ap (λ (s : Option Node). placeOf s .used) cold-root;
-              default = ap (λ (s : Option Node). sameHandle (placeOf s .handle) defaultWords) cold-root ∙ default-same;
-              others = λ i l u z. absurd (z (cold-used i u));
-            };
+        apart = λ i j l m z u v live. absurd (z (cold-used i u ∙ sym (cold-used j v)));
         blank = λ i l u. elim (ℕ-discrete i 0) [
           | yes z ↦ absurd (true≢false (sym (ap (λ (j : ℕ). treeOf coldNodes j .used) z ∙ ap (λ (s : Option Node). placeOf s .used) cold-root) ∙ u))
           | no z ↦ ap (λ (s : Option Node). placeOf s .blank) (cold-else i z)
@@ -200,7 +202,6 @@ good-begun z m =
           (measures-set registerCount (replicate registerCount (zeros 48)) currentRegister z m (measures-zero registerCount)))
           (length-cold nodeCount (omega arith) z);
       top = 0;
-      holder = 0;
       formed = formed-cold nodeCount (omega arith) z;
       journey =
           ap currentOf (cold-root nodeCount (omega arith) z)
@@ -215,15 +216,18 @@ pub good-cold : (y : Chain) (b : BootInputs) → Good (nextChain y (coldBoot b))
 unfolding nextChain
 good-cold y b = good-begun _ (measure-each _ _ _)
 
--- ---- root and holder, where the searches find them
+-- ---- the root, where the search finds it, and any used node
 
 used-place : (s : Option Node) → placeOf s .used ≡ true → (n : Node) × (s ≡ some n)
 used-place none u = absurd (true≢false (sym u))
 used-place (some n) u = (n, refl)
 
+pub node-at : (x : Chain) (i : ℕ) → treeAt x i .used ≡ true → (n : Node) × (getD (x .nodes) i none ≡ some n)
+node-at x i u = used-place (getD (x .nodes) i none) u
+
 module _ (x : Chain) (g : Good x) where
   pub root-is : rootIn nodeCount (treeAt x) ≡ g .top
-  root-is = top-found nodeCount (omega arith) (treeAt x) (g .top) (g .holder) (g .formed)
+  root-is = top-found nodeCount (omega arith) (treeAt x) (g .top) (g .formed)
 
   pub root-below : rootIn nodeCount (treeAt x) < nodeCount
   root-below = rw root-is (g .formed .rooted .below)
@@ -231,22 +235,16 @@ module _ (x : Chain) (g : Good x) where
   pub root-node : (n : Node) × (getD (x .nodes) (rootIn nodeCount (treeAt x)) none ≡ some n)
   root-node = rw root-is (used-place (getD (x .nodes) (g .top) none) (root-used (treeAt x (g .top)) (g .formed .rooted .root)))
 
-  pub holder-is : nodeWith nodeCount (treeAt x) defaultWords ≡ g .holder
-  holder-is = holder-found nodeCount (omega arith) (treeAt x) (g .top) (g .holder) (g .formed)
-
-  pub holder-below : nodeWith nodeCount (treeAt x) defaultWords < nodeCount
-  holder-below = rw holder-is (g .formed .held .below)
-
-  pub holder-node : (n : Node) × (getD (x .nodes) (nodeWith nodeCount (treeAt x) defaultWords) none ≡ some n)
-  holder-node = rw holder-is (used-place (getD (x .nodes) (g .holder) none) (g .formed .held .used))
-
-  -- the free place is not the holder's
-  pub holder-apart : lowestFree nodeCount (treeAt x) < nodeCount → nodeWith nodeCount (treeAt x) defaultWords ≢ lowestFree nodeCount (treeAt x)
-  holder-apart room z =
-      true≢false (sym (ap (λ (s : Option Node). placeOf s .used) (holder-node .1)) ∙ ap (λ (j : ℕ). treeAt x j .used) z ∙ free-there nodeCount (treeAt x) room)
-
   pub formed-good : wellFormed nodeCount (treeAt x) ≡ true
-  formed-good = formed-true nodeCount (omega arith) (treeAt x) (g .top) (g .holder) (g .formed)
+  formed-good = formed-true nodeCount (omega arith) (treeAt x) (g .top) (g .formed)
+
+  -- a node that is not a root is not the root
+  pub top-else : (i : ℕ) → isRoot (treeAt x i) ≡ false → g .top ≢ i
+  top-else i e z = true≢false (sym (g .formed .rooted .root) ∙ ap (λ (j : ℕ). isRoot (treeAt x j)) z ∙ e)
+
+-- a free place is no used node's
+pub free-apart : (x : Chain) (i : ℕ) → treeAt x i .used ≡ true → lowestFree nodeCount (treeAt x) < nodeCount → i ≢ lowestFree nodeCount (treeAt x)
+free-apart x i u room z = true≢false (sym u ∙ ap (λ (j : ℕ). treeAt x j .used) z ∙ free-there nodeCount (treeAt x) room)
 
 -- ---- a register other than PCR3 may become any measurement
 
@@ -255,92 +253,195 @@ good-register x i v m apart g =
     record {
       shape = shape-of _ (measures-set registerCount (x .registers) i v m (measures-of x (g .shape))) (g .shape .nodes);
       top = g .top;
-      holder = g .holder;
       formed = g .formed;
       journey = g .journey ∙ sym (getD-set-other (x .registers) i journeyRegister v [] apart);
       cumulatives = g .cumulatives;
     }
 
--- ---- a stash
+-- ---- a node changed: its handle, or its measurements
 
--- its nodes, whatever is measured: type, locality and svn are free
-module _ (x : Chain) (current cumulative : List ℕ) (type locality svn : ℕ) (measure : Measure cumulative) (g : Good x) (room : lowestFree nodeCount (treeAt x) < nodeCount) where
-  h : ℕ
-  h = nodeWith nodeCount (treeAt x) defaultWords
+current-changed : (f : Node → Node) → ((n : Node) → f n .current ≡ n .current) → (s : Option Node) → currentOf (changed f s) ≡ currentOf s
+current-changed f h none = refl
+current-changed f h (some n) = h n
 
+-- a used node with another handle
+place-rehandled : (h : List ℕ) (s : Option Node) → placeOf s .used ≡ true → placeOf (changed (withHandle h) s) ≡ rehandled (handleRow h) (placeOf s)
+place-rehandled h none u = absurd (true≢false (sym u))
+place-rehandled h (some n) u = refl
+
+tree-rehandled : (ns : List (Option Node)) (i : ℕ) (h : List ℕ) → i < length ns → treeOf ns i .used ≡ true
+    → treeOf (changedAt (withHandle h) ns i) ≡ placed i (rehandled (handleRow h) (treeOf ns i)) (treeOf ns)
+tree-rehandled ns i h l u =
+    tree-set ns i (changed (withHandle h) (getD ns i none)) l ∙ ap (λ (p : Place). placed i p (treeOf ns)) (place-rehandled h (getD ns i none) u)
+
+-- other measurements change nothing that the rules see
+place-renewed : (d : List ℕ) (s : Option Node) → placeOf (changed (renewed d) s) ≡ placeOf s
+place-renewed d none = refl
+place-renewed d (some n) = refl
+
+tree-renewed : (ns : List (Option Node)) (i : ℕ) (d : List ℕ) → i < length ns → treeOf (changedAt (renewed d) ns i) ≡ treeOf ns
+tree-renewed ns i d l =
+    tree-set ns i (changed (renewed d) (getD ns i none)) l
+    ∙ ap (λ (p : Place). placed i p (treeOf ns)) (place-renewed d (getD ns i none))
+    ∙ placed-self i (treeOf ns)
+
+-- a used node gets a handle that no other has
+pub good-rotated : (x : Chain) (i : ℕ) (h : List ℕ) → Good x → i < nodeCount → treeAt x i .used ≡ true
+    → ((j : ℕ) → j < nodeCount → treeAt x j .used ≡ true → sameHandle (treeAt x j .handle) (handleRow h) ≡ false)
+    → Good (record { registers = x .registers; nodes = changedAt (withHandle h) (x .nodes) i })
+good-rotated x i h g l u fresh =
+    record {
+      shape = shape-of _ (measures-of x (g .shape)) (length-set (x .nodes) i _ ∙ g .shape .nodes);
+      top = g .top;
+      formed =
+          subst (λ (t : Tree). Formed nodeCount t (g .top)) (sym (tree-rehandled (x .nodes) i h (omega (arith, g .shape .nodes)) u))
+          (formed-rotated nodeCount (treeAt x) (g .top) (g .formed) i (handleRow h) (λ j b z v. fresh j b v));
+      journey =
+          getD-kept currentOf (x .nodes) i (g .top) (changed (withHandle h) (getD (x .nodes) i none)) none
+          (current-changed (withHandle h) (λ n. refl) (getD (x .nodes) i none))
+          ∙ g .journey;
+      cumulatives =
+          cumulatives-set (x .nodes) i (changed (withHandle h) (getD (x .nodes) i none)) (g .cumulatives)
+          (measure-changed (withHandle h) (getD (x .nodes) i none) (λ n e. g .cumulatives i n e));
+    }
+
+-- a node that is not the root gets other measurements
+pub good-extended : (x : Chain) (i : ℕ) (d : List ℕ) → Good x → i < nodeCount → isRoot (treeAt x i) ≡ false
+    → Good (record { registers = x .registers; nodes = changedAt (renewed d) (x .nodes) i })
+good-extended x i d g l below =
+    record {
+      shape = shape-of _ (measures-of x (g .shape)) (length-set (x .nodes) i _ ∙ g .shape .nodes);
+      top = g .top;
+      formed = subst (λ (t : Tree). Formed nodeCount t (g .top)) (sym (tree-renewed (x .nodes) i d (omega (arith, g .shape .nodes)))) (g .formed);
+      journey = ap currentOf (getD-set-other (x .nodes) i (g .top) (changed (renewed d) (getD (x .nodes) i none)) none (top-else x g i below)) ∙ g .journey;
+      cumulatives =
+          cumulatives-set (x .nodes) i (changed (renewed d) (getD (x .nodes) i none)) (g .cumulatives)
+          (measure-changed (renewed d) (getD (x .nodes) i none) (λ n e. measure-extended _ _));
+    }
+
+-- ---- a node more, below a used one, whatever is measured: type, locality and svn are free
+
+module _ (x : Chain) (b : ℕ) (handle current cumulative : List ℕ) (type locality svn : ℕ) (measure : Measure cumulative) (g : Good x) (there : b < nodeCount)
+    (up : treeAt x b .used ≡ true) (room : lowestFree nodeCount (treeAt x) < nodeCount) where
   k : ℕ
   k = lowestFree nodeCount (treeAt x)
 
   child : Node
-  child = newNode h 0 current cumulative type locality svn
+  child = newNode b handle 0 current cumulative type locality svn
 
   old : Option Node
-  old = changed (withHandle retiredHandle) (getD (x .nodes) h none)
+  old = changed (withHandle retiredHandle) (getD (x .nodes) b none)
 
-  place-old : placeOf old ≡ rehandled (handleRow retiredHandle) (treeAt x h)
-  unfolding old h
-  place-old = go (getD (x .nodes) h none) (holder-node x g .0) (holder-node x g .1)
-    where
-      go : (s : Option Node) (n : Node) → s ≡ some n → placeOf (changed (withHandle retiredHandle) s) ≡ rehandled (handleRow retiredHandle) (placeOf s)
-      go none n e = absurd (Option·none-ne-some n e)
-      go (some p) n e = refl
+  tree-grown : treeOf (set (x .nodes) k (some child)) ≡ placed k (placeOf (some child)) (treeAt x)
+  unfolding k
+  tree-grown = tree-set (x .nodes) k (some child) (omega (arith, g .shape .nodes))
 
-  tree-stashed : treeOf (set (set (x .nodes) k (some child)) h old) ≡ stashed h k (placeOf (some child)) (treeAt x)
-  unfolding h k
-  tree-stashed =
-      tree-set (set (x .nodes) k (some child)) h old (rw length-set (omega (arith, holder-below x g, g .shape .nodes)))
-      ∙ ap (placed h (placeOf old)) (tree-set (x .nodes) k (some child) (omega (arith, g .shape .nodes)))
-      ∙ placed-swap h k (placeOf old) (placeOf (some child)) (treeAt x) (holder-apart x g room)
-      ∙ ap (λ (p : Place). placed k (placeOf (some child)) (placed h p (treeAt x))) (place-old ∙ ap (λ (w : List ℕ). rehandled w (treeAt x h)) retired-row)
+  top-kept : currentOf (getD (set (x .nodes) k (some child)) (g .top) none) ≡ currentOf (getD (x .nodes) (g .top) none)
+  unfolding k
+  top-kept =
+      ap currentOf
+      (getD-set-other (x .nodes) k (g .top) (some child) none
+      (free-apart x (g .top) (root-used (treeAt x (g .top)) (g .formed .rooted .root)) room))
 
-  formed-now : Formed nodeCount (treeOf (set (set (x .nodes) k (some child)) h old)) (g .top) k
-  unfolding h k child
-  formed-now =
-      subst (λ (t : Tree). Formed nodeCount t (g .top) k) (sym tree-stashed)
-      (subst (λ (i : ℕ). Formed nodeCount (stashed i k (placeOf (some child)) (treeAt x)) (g .top) k) (sym (holder-is x g))
-      (formed-stashed nodeCount (treeAt x) (g .top) (g .holder) (g .formed) k (placeOf (some child)) room (free-there nodeCount (treeAt x) room) refl refl
-      (holder-is x g)
-      default-same))
+  cumulatives-grown : Cumulatives (set (x .nodes) k (some child))
+  unfolding child
+  cumulatives-grown = cumulatives-set (x .nodes) k (some child) (g .cumulatives) measure
 
-  current-kept : currentOf (getD (set (set (x .nodes) k (some child)) h old) (g .top) none) ≡ currentOf (getD (x .nodes) (g .top) none)
-  unfolding h k old
-  current-kept =
-      getD-kept currentOf (set (x .nodes) k (some child)) h (g .top) old none
-      (go (getD (x .nodes) h none) ∙ ap currentOf (sym (getD-set-other (x .nodes) k h (some child) none (holder-apart x g room))))
-      ∙ ap currentOf (getD-set-other (x .nodes) k (g .top) (some child) none top-apart)
-    where
-      go : (s : Option Node) → currentOf (changed (withHandle retiredHandle) s) ≡ currentOf s
-      go none = refl
-      go (some n) = refl
+  -- with a handle that no node has
+  grown-here : ((j : ℕ) → j < nodeCount → treeAt x j .used ≡ true → sameHandle (treeAt x j .handle) (handleRow handle) ≡ false)
+      → Good (record { registers = x .registers; nodes = set (x .nodes) k (some child) })
+  unfolding k child
+  grown-here fresh =
+      record {
+        shape = shape-of _ (measures-of x (g .shape)) (length-set (x .nodes) k (some child) ∙ g .shape .nodes);
+        top = g .top;
+        formed =
+            subst (λ (t : Tree). Formed nodeCount t (g .top)) (sym tree-grown)
+            (formed-more nodeCount (treeAt x) (g .top) (g .formed) k (placeOf (some child)) room (free-there nodeCount (treeAt x) room) refl refl there up
+            (λ j l z v. fresh j l v));
+        journey = top-kept ∙ g .journey;
+        cumulatives = cumulatives-grown;
+      }
 
-      top-apart : g .top ≢ lowestFree nodeCount (treeAt x)
-      top-apart z =
-          true≢false
-          (sym (root-used (treeAt x (g .top)) (g .formed .rooted .root)) ∙ ap (λ (j : ℕ). treeAt x j .used) z ∙ free-there nodeCount (treeAt x) room)
+  tree-replaced : treeOf (set (set (x .nodes) k (some child)) b old) ≡ stashed b k (placeOf (some child)) (treeAt x)
+  unfolding k old
+  tree-replaced =
+      tree-set (set (x .nodes) k (some child)) b old (rw length-set (omega (arith, g .shape .nodes)))
+      ∙ ap (placed b (placeOf old)) tree-grown
+      ∙ placed-swap b k (placeOf old) (placeOf (some child)) (treeAt x) (free-apart x b up room)
+      ∙ ap (λ (p : Place). placed k (placeOf (some child)) (placed b p (treeAt x)))
+      (place-rehandled retiredHandle (getD (x .nodes) b none) up ∙ ap (λ (w : List ℕ). rehandled w (treeAt x b)) retired-row)
 
-  good-child : Good (record { registers = x .registers; nodes = set (set (x .nodes) k (some child)) h old })
-  unfolding h k child old
-  good-child =
+  -- with a live handle that no node has but the one above, which is retired
+  replaced-here : sameHandle (handleRow handle) retiredWords ≡ false
+      → ((j : ℕ) → j < nodeCount → j ≢ b → treeAt x j .used ≡ true → sameHandle (treeAt x j .handle) (handleRow handle) ≡ false)
+      → Good (record { registers = x .registers; nodes = set (set (x .nodes) k (some child)) b old })
+  unfolding k child old
+  replaced-here live fresh =
       record {
         shape =
             shape-of _ (measures-of x (g .shape))
-            (length-set (set (x .nodes) k (some child)) h old ∙ length-set (x .nodes) k (some child) ∙ g .shape .nodes);
+            (length-set (set (x .nodes) k (some child)) b old ∙ length-set (x .nodes) k (some child) ∙ g .shape .nodes);
         top = g .top;
-        holder = k;
-        formed = formed-now;
-        journey = current-kept ∙ g .journey;
+        formed =
+            subst (λ (t : Tree). Formed nodeCount t (g .top)) (sym tree-replaced)
+            (formed-stashed nodeCount (treeAt x) (g .top) (g .formed) b k (placeOf (some child)) room (free-there nodeCount (treeAt x) room) refl refl refl there
+            up live fresh);
+        journey =
+            getD-kept currentOf (set (x .nodes) k (some child)) b (g .top) old none
+            (current-changed (withHandle retiredHandle) (λ n. refl) (getD (x .nodes) b none)
+            ∙ ap currentOf (sym (getD-set-other (x .nodes) k b (some child) none (free-apart x b up room))))
+            ∙ top-kept
+            ∙ g .journey;
         cumulatives =
-            cumulatives-set (set (x .nodes) k (some child)) h old
-            (cumulatives-set (x .nodes) k (some child) (g .cumulatives) measure)
-            (measure-changed (withHandle retiredHandle) (getD (x .nodes) h none) (λ n e. g .cumulatives h n e));
+            cumulatives-set (set (x .nodes) k (some child)) b old cumulatives-grown
+            (measure-changed (withHandle retiredHandle) (getD (x .nodes) b none) (λ n e. g .cumulatives b n e));
       }
 
--- and PCR31
-pub good-stash : (x : Chain) (m : Measurement) → Good x → lowestFree nodeCount (treeAt x) < nodeCount → Good (nextChain x (stash m))
-unfolding nextChain h k child old
-good-stash x m g room =
-    good-child (record { registers = extendedAt (x .registers) stashRegister (m .digest); nodes = x .nodes }) _ _ _ _ _ (measure-extended _ _)
-    (good-register x stashRegister _ (measure-extended _ _) (λ (e : _≡_ {A = ℕ} journeyRegister stashRegister). omega arith) g) room
+pub good-grown : (x : Chain) (b : ℕ) (handle current cumulative : List ℕ) (type locality svn : ℕ) → Measure cumulative → Good x → b < nodeCount
+    → treeAt x b .used ≡ true → lowestFree nodeCount (treeAt x) < nodeCount
+    → ((j : ℕ) → j < nodeCount → treeAt x j .used ≡ true → sameHandle (treeAt x j .handle) (handleRow handle) ≡ false)
+    → Good (record {
+      registers = x .registers;
+      nodes = set (x .nodes) (lowestFree nodeCount (treeAt x)) (some (newNode b handle 0 current cumulative type locality svn));
+    })
+unfolding k child
+good-grown x b handle current cumulative type locality svn = grown-here x b handle current cumulative type locality svn
+
+pub good-replaced : (x : Chain) (b : ℕ) (handle current cumulative : List ℕ) (type locality svn : ℕ) → Measure cumulative → Good x → b < nodeCount
+    → treeAt x b .used ≡ true → lowestFree nodeCount (treeAt x) < nodeCount → sameHandle (handleRow handle) retiredWords ≡ false
+    → ((j : ℕ) → j < nodeCount → j ≢ b → treeAt x j .used ≡ true → sameHandle (treeAt x j .handle) (handleRow handle) ≡ false)
+    → Good (record {
+      registers = x .registers;
+      nodes =
+          set (set (x .nodes) (lowestFree nodeCount (treeAt x)) (some (newNode b handle 0 current cumulative type locality svn))) b
+          (changed (withHandle retiredHandle) (getD (x .nodes) b none));
+    })
+unfolding k child old
+good-replaced x b handle current cumulative type locality svn = replaced-here x b handle current cumulative type locality svn
+
+-- ---- a stash: a node below the holder of the default handle, and PCR31
+
+default-row-live : sameHandle (handleRow defaultHandle) retiredWords ≡ false
+unfolding zeros
+default-row-live = ap (λ (w : List ℕ). sameHandle w retiredWords) default-row ∙ default-live
+
+default-same : sameHandle (handleRow defaultHandle) defaultWords ≡ true
+unfolding zeros
+default-same = ap (λ (w : List ℕ). sameHandle w defaultWords) default-row ∙ same-refl defaultWords
+
+pub good-stash : (x : Chain) (m : Measurement) → Good x → nodeWith nodeCount (treeAt x) defaultWords < nodeCount → lowestFree nodeCount (treeAt x) < nodeCount
+    → Good (nextChain x (stash m))
+unfolding nextChain
+good-stash x m g held room =
+    good-replaced (record { registers = extendedAt (x .registers) stashRegister (m .digest); nodes = x .nodes }) holder _ _ _ _ _ _ (measure-extended _ _)
+    (good-register x stashRegister _ (measure-extended _ _) (λ (e : _≡_ {A = ℕ} journeyRegister stashRegister). omega arith) g) held
+    (has-used defaultWords (treeAt x holder) (with-there nodeCount (treeAt x) defaultWords held)) room default-row-live
+    (others-lack nodeCount (treeAt x) defaultWords (handleRow defaultHandle) holder default-same
+    (with-else nodeCount (treeAt x) (g .top) (g .formed) defaultWords default-live))
+  where
+    holder : ℕ
+    holder = nodeWith nodeCount (treeAt x) defaultWords
 
 -- ---- an update boot
 
@@ -358,8 +459,7 @@ good-renewed x c j mc mj g =
           (measures-set registerCount (x .registers) currentRegister c mc (measures-of x (g .shape))))
           (length-set (x .nodes) r new ∙ g .shape .nodes);
       top = g .top;
-      holder = g .holder;
-      formed = subst (λ (t : Tree). Formed nodeCount t (g .top) (g .holder)) (sym same-tree) (g .formed);
+      formed = subst (λ (t : Tree). Formed nodeCount t (g .top)) (sym (tree-renewed (x .nodes) r j (omega (arith, root-below x g, g .shape .nodes)))) (g .formed);
       journey =
           ap (λ (i : ℕ). currentOf (getD (set (x .nodes) r new) i none)) (sym (root-is x g))
           ∙ ap currentOf (getD-set-same (x .nodes) r new none (omega (arith, root-below x g, g .shape .nodes)) ∙ ap (changed (renewed j)) (root-node x g .1))
@@ -375,16 +475,6 @@ good-renewed x c j mc mj g =
 
     new : Option Node
     new = changed (renewed j) (getD (x .nodes) r none)
-
-    same-tree : treeOf (set (x .nodes) r new) ≡ treeAt x
-    same-tree =
-        tree-set (x .nodes) r new (omega (arith, root-below x g, g .shape .nodes))
-        ∙ ap (λ (p : Place). placed r p (treeAt x)) (go (getD (x .nodes) r none))
-        ∙ placed-self r (treeAt x)
-      where
-        go : (s : Option Node) → placeOf (changed (renewed j) s) ≡ placeOf s
-        go none = refl
-        go (some n) = refl
 
 pub good-update : (x : Chain) (b : BootInputs) → Good x → Good (nextChain x (update b))
 unfolding nextChain

@@ -17,6 +17,7 @@ use Rattle.layout.specs.Refusals.{unfinished, unknownCode, wrongLength, badChec
 use Rattle.tree.specs.Tree.{Tree, wellFormed}
 use Rattle.tree.specs.Nodes.{treeIn}
 use Rattle.table.specs.Table.{numberOf, indexOk}
+use Rattle.table.specs.declared.Kind.{Kind}
 use Rattle.table.specs.declared.Put.{Put}
 use Rattle.work.proofs.Plans.{apply, length-apply}
 use Rattle.opening.specs.Tasks.{Request, BootInputs, Task, noStores, keptBoot, update, Ruling, refused, accepted, View}
@@ -24,10 +25,10 @@ use Rattle.opening.specs.Rules.{refuses, wrongChecksum, Command, commandOf, ser
 use Rattle.opening.specs.Works.{factsOf}
 use Rattle.opening.proofs.Decided.{NoneApply, ruled-decided, negated}
 use Rattle.opening.proofs.Recorded.{Told}
-use Rattle.command_laws.proofs.ByCommand.{Steady, Served, CommandLaw, declined-short, command-law}
+use Rattle.command_laws.proofs.ByCommand.{Steady, Granted, Served, CommandLaw, declined-short, command-law}
 use Rattle.opening.specs.declared.Outcome.{Outcome}
 use Rattle.opening.specs.Openings.{viewIn, intact}
-use Rattle.history.specs.Ledger.{Chain, Contents, treeAt, next, blank, stateOf, imageOf, any, disables, isNone, isDisableCommand, isOff, viewOf}
+use Rattle.history.specs.Ledger.{Chain, Contents, treeAt, next, blank, stateOf, kindAt, imageOf, any, disables, isNone, isDisableCommand, isOff, viewOf}
 use Rattle.history.specs.Demand.{Shut}
 use Rattle.history.proofs.Encoded.{length-image, mark-read, attestation-read}
 use Rattle.history.proofs.Good.{Good, root-below, formed-good, good-tree, matches-good}
@@ -64,7 +65,7 @@ calm (broken n m) q = q
 
 -- the number of its stores, at a chain
 abbrev pub storesAt : Chain → Task → ℕ
-storesAt x tk = numberOf (factsOf tk .kind (treeAt x))
+storesAt x tk = numberOf (kindAt x tk)
 
 pub record Fits (h : List Task) (t u : Bool) (tk : Task) : Type 0 where
   -- with nothing to store: nothing is unfinished, or nothing was torn
@@ -75,18 +76,31 @@ pub record Fits (h : List Task) (t u : Bool) (tk : Task) : Type 0 where
   -- a boot disables only where attestation is off
   pub off : t ≡ false → disables tk ≡ true → (isDisableCommand tk ≡ true) ⊎ (any disables h ≡ true)
 
+-- the nodes of a history's image
+sound-tree : (l : List ℕ) (h : List Task) → Good (stateOf h .chain) → l ≡ imageAfter h → treeIn l ≡ treeAt (stateOf h .chain)
+sound-tree l h g e = ap treeIn e ∙ good-tree 1 (attestationWord (any disables h)) (stateOf h) g
+
+-- what does not look at the nodes is the same at all
+steady-kind : (h : List Task) (tk : Task) → Steady tk → (t : Tree) → factsOf tk .kind t ≡ kindAt (stateOf h .chain) tk
+unfolding kindAt
+steady-kind h tk s t = rw (s .whole) (s .same t (treeAt (stateOf h .chain)))
+
 -- the kind of work that the image gives is the ledger's
 pub kind-same : {l : List ℕ} {h : List Task} {t u : Bool} → Ground l h t u → (tk : Task) → Fits h t u tk
-    → factsOf tk .kind (treeIn l) ≡ factsOf tk .kind (treeAt (stateOf h .chain))
-kind-same {l} {h} (sound g o e) tk f = ap (factsOf tk .kind) (ap treeIn e ∙ good-tree 1 (attestationWord (any disables h)) (stateOf h) g)
-kind-same {l} {h} (locked n m s) tk f = f .torn refl .same (treeIn l) (treeAt (stateOf h .chain))
-kind-same {l} {h} (broken n m) tk f = f .torn refl .same (treeIn l) (treeAt (stateOf h .chain))
+    → factsOf tk .kind (treeIn l) ≡ kindAt (stateOf h .chain) tk
+kind-same {l} {h} (sound g o e) tk f =
+    ap (factsOf tk .kind) (sound-tree l h g e) ∙ sym (laws tk .kind (stateOf h .chain) g (f .allowed refl g))
+kind-same {l} {h} (locked n m s) tk f = steady-kind h tk (f .torn refl) (treeIn l)
+kind-same {l} {h} (broken n m) tk f = steady-kind h tk (f .torn refl) (treeIn l)
 
 -- no index of an opened work is beyond the nodes
-pub index-ok : {l : List ℕ} {h : List Task} {t u : Bool} → Ground l h t u → (tk : Task) → Fits h t u tk → indexOk (factsOf tk .kind (treeIn l)) ≡ true
-index-ok {l} {h} (sound g o e) tk f = ap indexOk (kind-same (sound g o e) tk f) ∙ f .allowed refl g .index
-index-ok {l} (locked n m s) tk f = f .torn refl .index (treeIn l)
-index-ok {l} (broken n m) tk f = f .torn refl .index (treeIn l)
+pub index-ok : {l : List ℕ} {h : List Task} {t u : Bool} → Ground l h t u → (tk : Task) → Fits h t u tk
+    → indexOk (factsOf tk .kind (treeIn l)) (factsOf tk .values l .node) ≡ true
+index-ok {l} {h} (sound g o e) tk f =
+    ap (λ (t : Tree). indexOk (factsOf tk .kind t) (factsOf tk .values l .node)) (sound-tree l h g e)
+    ∙ f .allowed refl g .index l (sound-tree l h g e)
+index-ok {l} (locked n m s) tk f = f .torn refl .index (treeIn l) (factsOf tk .values l .node)
+index-ok {l} (broken n m) tk f = f .torn refl .index (treeIn l) (factsOf tk .values l .node)
 
 -- ---- one task more in the history
 
@@ -125,6 +139,12 @@ shut-off l h ps n e =
     locked (length-apply ps l ∙ n) (ap (λ (p : List Put). getD (apply p l) markAt 0) e ∙ off-mark l n)
     (subst (λ (p : List Put). Shut (apply p l)) (sym e) (off-shut l n))
 
+-- where a work was torn, only a disabling has stores
+pub torn-plan : (h : List Task) (tk : Task) → Steady tk → 0 < storesAt (stateOf h .chain) tk → (l : List ℕ) → planAt l tk ≡ offPlan
+torn-plan h tk s p l =
+    let t = treeAt (stateOf h .chain) in
+    laws tk .off (s .quiet t (subst (λ (k : Kind). 0 < numberOf k) (sym (steady-kind h tk s t)) p)) l
+
 pub finish : {l : List ℕ} {h : List Task} {t u : Bool} → Ground l h t u → (tk : Task) → Fits h t u tk → 0 < storesAt (stateOf h .chain) tk
     → Ground (apply (planAt l tk) l) (h ++ (tk ∷ [])) t false
 finish {l} {h} (sound g o e) tk f p =
@@ -134,7 +154,7 @@ finish {l} {h} (sound g o e) tk f p =
     (by-command (factsOf tk .disables) (isNone (factsOf tk .boot)))
     ∙ sym (any-snoc isDisableCommand h tk))
     (ap (λ (z : List ℕ). apply (planAt z tk) z) e
-    ∙ law .runs (attestationWord (any disables h)) (stateOf h) g a p
+    ∙ law .runs (attestationWord (any disables h)) (stateOf h) g a (subst (λ (k : Kind). 0 < numberOf k) (law .kind (stateOf h .chain) g a) p)
     ∙ (λ i. imageOf 1 ((word-off (any disables h) (disables tk) ∙ ap attestationWord (sym (any-snoc disables h tk))) i) (sym (state-snoc h tk) i)))
   where
     law : Law tk
@@ -147,9 +167,9 @@ finish {l} {h} (sound g o e) tk f p =
     by-command true y q = refl
     by-command false y q = q
 finish {l} {h} (locked n m s) tk f p =
-    shut-off l (h ++ (tk ∷ [])) (planAt l tk) n (laws tk .off (f .torn refl .quiet (treeAt (stateOf h .chain)) p) l)
+    shut-off l (h ++ (tk ∷ [])) (planAt l tk) n (torn-plan h tk (f .torn refl) p l)
 finish {l} {h} (broken n m) tk f p =
-    shut-off l (h ++ (tk ∷ [])) (planAt l tk) n (laws tk .off (f .torn refl .quiet (treeAt (stateOf h .chain)) p) l)
+    shut-off l (h ++ (tk ∷ [])) (planAt l tk) n (torn-plan h tk (f .torn refl) p l)
 
 -- ---- the rules see the same in the image and in the ledger
 
@@ -222,12 +242,12 @@ left-false false x e = refl
 
 -- nothing to store, where nothing is unfinished
 idle-fits : (h : List Task) (t : Bool) → Fits h t false noStores
-unfolding numberOf indexOk
+unfolding numberOf indexOk kindAt
 idle-fits h t =
     record {
       rest = λ e. inl refl;
-      torn = λ e. record { same = λ a b. refl; index = λ a. refl; quiet = λ a p. absurd (not-suc-le-zero p) };
-      allowed = λ e g. record { index = refl; warm = refl };
+      torn = λ e. record { same = λ a b. refl; index = λ a m. refl; quiet = λ a p. absurd (not-suc-le-zero p); whole = refl };
+      allowed = λ e g. record { index = λ m q. refl; granted = tt; warm = refl };
       off = λ e q. absurd (false≢true q);
     }
 
@@ -240,12 +260,17 @@ module _ (h : List Task) (t : Bool) (v : View) (r : Request) (off : t ≡ true �
       rest = λ e. inl refl;
       torn = λ e. s .steady (off e);
       allowed = λ e g.
-          record { index = subst (λ (x : Tree). indexOk (factsOf tk .kind x) ≡ true) nodes (s .index); warm = ap isCold (s .request) };
+          record {
+            index = λ m q.
+                subst (λ (x : Tree). indexOk (factsOf tk .kind x) (factsOf tk .values m .node) ≡ true) nodes (s .index m (q ∙ sym nodes));
+            granted = subst (λ (x : Tree). Granted x tk) nodes (s .granted);
+            warm = ap isCold (s .request);
+          };
       off = λ e q. inl (rw (q, s .request));
     },
     law .short r,
     sym (ap (λ (o : Option Outcome). not (isNone o)) (s .request)),
-    law .told r e,
+    law .told v r e n,
   )
     where
       tk : Task
@@ -303,7 +328,7 @@ digests-long x e = (
 )
 
 pub fits-boot : (h : List Task) (t u v : Bool) (b : BootInputs) → inputsOk b ≡ true → FitsRuling h t u true (accepted (updateTask (not (isOff h t)) v b) [])
-unfolding numberOf indexOk
+unfolding numberOf indexOk kindAt
 fits-boot h t u v b fine = go (isOff h t) refl v
   where
     kept-torn : isOff h t ≡ false → t ≡ false
@@ -323,8 +348,8 @@ fits-boot h t u v b fine = go (isOff h t) refl v
     go true e w = (
       record {
         rest = λ z. absurd (omega arith);
-        torn = λ q. record { same = λ x y. refl; index = λ x. refl; quiet = λ x p. refl };
-        allowed = λ q g. record { index = refl; warm = refl };
+        torn = λ q. record { same = λ x y. refl; index = λ x m. refl; quiet = λ x p. refl; whole = refl };
+        allowed = λ q g. record { index = λ m z. refl; granted = tt; warm = refl };
         off = λ q z. inr (ap (λ (x : Bool). x || any disables h) (sym q) ∙ e);
       },
       zero-le,
@@ -332,9 +357,9 @@ fits-boot h t u v b fine = go (isOff h t) refl v
       tt,
     )
     go false e true = (
-      whole (update b) e (λ g. record { index = rw (lt-ltb _ nodeCount (root-below (stateOf h .chain) g)); warm = refl }) (λ z. false≢true z),
+      whole (update b) e (λ g. record { index = λ m z. rw (lt-ltb _ nodeCount (root-below (stateOf h .chain) g)); granted = tt; warm = refl }) (λ z. false≢true z),
       zero-le,
       refl,
       digests-long b fine,
     )
-    go false e false = (whole keptBoot e (λ g. record { index = refl; warm = refl }) (λ z. false≢true z), zero-le, refl, tt)
+    go false e false = (whole keptBoot e (λ g. record { index = λ m z. refl; granted = tt; warm = refl }) (λ z. false≢true z), zero-le, refl, tt)

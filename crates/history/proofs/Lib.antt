@@ -4,6 +4,9 @@ pub mod Encoded
 pub mod Stores
 pub mod Good
 pub mod Runs
+pub mod Clears
+pub mod Orders
+pub mod Freeing
 pub mod Laws
 pub mod Ground
 pub mod Sim

@@ -1,5 +1,6 @@
 -- A work that runs to its end leaves the image of the next state; a disabling shuts any image. Assumes nothing.
 use mathlib.Core.Path.{_≡_, refl, sym, ap, _∙_, subst}
+use mathlib.Core.Logic.{_≢_}
 use Prim.Native.Nat.{ℕ, zero, suc, _+_, _-_, _*_, _<_}
 use native.Mathlib.Nat.{add-zero, zero-add, add-comm, zero-mul, suc-mul, le-of-suc-le-suc, not-suc-le-zero}
 use native.Mathlib.Omega.{arith}
@@ -15,6 +16,7 @@ use Rattle.layout.proofs.Tab.{length-zeros, getD-zeros}
 use Rattle.sha384.specs.Entries.{extended}
 use Rattle.tree.specs.Nodes.{treeIn, cumulativeIn}
 use Rattle.tree.specs.Tree.{defaultWords, rootIn, nodeWith, lowestFree}
+use Rattle.tree.proofs.WellFormed.{has-used, with-there}
 use Rattle.nodes.specs.Record.{Node, retiredHandle, nodeRow, placeRow, measurementsRow, withHandle, withCurrent, withCumulative}
 use Rattle.nodes.proofs.Rows.{length48, length-row, store-handle, store-current, store-cumulative, retired-row, measurements-current, measurements-cumulative}
 use Rattle.table.specs.Table.{put, Run, one, fill, copy, stashRuns, disablingRuns, updateRuns, coldRuns, extensionRuns, numberOf}
@@ -23,13 +25,13 @@ use Rattle.making.specs.Made.{workWith}
 use Rattle.table.specs.declared.Put.{Put}
 use Rattle.table.proofs.ByKind.{EveryRun}
 use Rattle.work.proofs.Plans.{apply, storesIn, every-stores, every-at, plan, length-plan, run-one, run-zeros, run-fill, run-copy, run-part}
-use Rattle.opening.specs.Values.{extendedByBoot, childNode, rootNode}
+use Rattle.opening.specs.Values.{extendedByBoot, stashedNode, rootNode}
 use Rattle.opening.specs.Tasks.{BootInputs, Measurement, RegisterExtension, Task, disableCommand, disablingBoot, stash, update, coldBoot, extension}
 use Rattle.opening.specs.Works.{factsOf, workAt}
 use Rattle.history.specs.Ledger.{Chain, Contents, treeAt, changed, renewed, nextChain, next, registerRows, nodeRows, imageOf}
 use Rattle.history.specs.Demand.{Shut}
 use Rattle.history.proofs.Encoded.{register-read}
-use Rattle.history.proofs.Good.{Good, root-below, root-node, holder-below, holder-node, holder-apart, good-tree, cumulative-read}
+use Rattle.history.proofs.Good.{Good, node-at, root-below, root-node, free-apart, good-tree, cumulative-read}
 use Rattle.history.proofs.Stores.{withSecret, withRegister, withNode, Counted, counted-register, counted-node, store-mark, store-attestation, sets-secret, sets-register, sets-node}
 
 -- ---- the stores of a task's work, at an image: the answer has no part in them
@@ -48,7 +50,7 @@ length-at l t = length-plan (workAt l t [])
 -- ---- a run of the table, made on the image of a state
 
 module _ (mk att : ℕ) (x : Contents) (rs : List Run) where
-  mark-run : (v : ℕ) → apply (storesIn (one markAt v ∷ rs)) (imageOf mk att x) ≡ apply (storesIn rs) (imageOf v att x)
+  pub mark-run : (v : ℕ) → apply (storesIn (one markAt v ∷ rs)) (imageOf mk att x) ≡ apply (storesIn rs) (imageOf v att x)
   mark-run v = run-one rs (imageOf mk att x) markAt v ∙ ap (apply (storesIn rs)) (store-mark mk att x v)
 
   attestation-run : (v : ℕ) → apply (storesIn (one attestationAt v ∷ rs)) (imageOf mk att x) ≡ apply (storesIn rs) (imageOf mk v x)
@@ -64,7 +66,7 @@ module _ (mk att : ℕ) (x : Contents) (rs : List Run) where
   register-run c i v h =
       run-copy rs (imageOf mk att x) (registerAt i) registerWords (words48 v) (length48 v) ∙ ap (apply (storesIn rs)) (sets-register mk att x c i v h)
 
-  node-run : Counted (x .chain) → (i : ℕ) (n : Node) → i < nodeCount
+  pub node-run : Counted (x .chain) → (i : ℕ) (n : Node) → i < nodeCount
       → apply (storesIn (copy (nodeAt i) nodeWords (nodeRow n) ∷ rs)) (imageOf mk att x) ≡ apply (storesIn rs) (imageOf mk att (withNode x i (some n)))
   node-run c i n h =
       run-copy rs (imageOf mk att x) (nodeAt i) nodeWords (nodeRow n) (length-row (some n))
@@ -198,10 +200,36 @@ shut-store k l h s = every-at Quiet offPlan (every-stores Quiet disablingRuns qu
     quiet : EveryRun Quiet disablingRuns
     quiet = (λ j. shut-mark 0, (λ j. shut-zero attestationAt, (λ j. shut-zero (secretAt + j), (λ j. shut-mark 1, tt))))
 
--- ---- a stash
+-- ---- a new node, and the one above it retired
 
 pub counted : (x : Chain) → Good x → Counted x
 counted x g = record { registers = g .shape .registers; nodes = g .shape .nodes }
+
+pub child-run : (mk att : ℕ) (x : Contents) (rs : List Run) → Counted (x .chain) → (k b : ℕ) (child n : Node) → k < nodeCount → b < nodeCount → b ≢ k
+    → getD (x .chain .nodes) b none ≡ some n
+    → apply (storesIn (copy (nodeAt k) nodeWords (nodeRow child) ∷ fill (nodeAt b + handleAt) handleWords retiredWord ∷ rs)) (imageOf mk att x)
+    ≡ apply (storesIn rs) (imageOf mk att (withNode (withNode x k (some child)) b (changed (withHandle retiredHandle) (getD (x .chain .nodes) b none))))
+child-run mk att x rs c k b child n room there apart found =
+    node-run mk att x (fill (nodeAt b + handleAt) handleWords retiredWord ∷ rs) c k child room
+    ∙ run-fill rs (imageOf mk att x1) (nodeAt b + handleAt) handleWords retiredWord
+    ∙ ap (apply (storesIn rs))
+    (sets-node mk att x1 (counted-node (x .chain) k (some child) c) b handleAt (replicate handleWords retiredWord) old there (lit≤ tt) handle)
+  where
+    old : Option Node
+    old = changed (withHandle retiredHandle) (getD (x .chain .nodes) b none)
+
+    x1 : Contents
+    x1 = withNode x k (some child)
+
+    handle : sets (placeRow (getD (x1 .chain .nodes) b none)) handleAt (replicate handleWords retiredWord) ≡ placeRow old
+    handle =
+        ap (λ (s : Option Node). sets (placeRow s) handleAt (replicate handleWords retiredWord))
+        (getD-set-other (x .chain .nodes) k b (some child) none apart ∙ found)
+        ∙ ap (sets (nodeRow n) handleAt) (sym retired-row)
+        ∙ store-handle n retiredHandle
+        ∙ ap (λ (s : Option Node). placeRow (changed (withHandle retiredHandle) s)) (sym found)
+
+-- ---- a stash
 
 module _ (att : ℕ) (x : Contents) (g : Good (x .chain)) (m : Measurement) where
   holder : ℕ
@@ -214,7 +242,7 @@ module _ (att : ℕ) (x : Contents) (g : Good (x .chain)) (m : Measurement) wher
   register = extended (getD (x .chain .registers) stashRegister []) (m .digest)
 
   runs : List Run
-  runs = stashRuns (record { node = free; holder = holder }) (words48 register) (nodeRow (childNode holder m))
+  runs = stashRuns (record { node = free; holder = holder }) (words48 register) (nodeRow (stashedNode holder m))
 
   stash-plan : planAt (imageOf 1 att x) (stash m) ≡ storesIn runs
   unfolding planAt plan runsOf workAt workWith runs register holder free
@@ -223,49 +251,20 @@ module _ (att : ℕ) (x : Contents) (g : Good (x .chain)) (m : Measurement) wher
       let r = register-read 1 att x (g .shape) stashRegister (lit< tt) in
       λ i. storesIn
       (stashRuns (record { node = lowestFree nodeCount (t i); holder = nodeWith nodeCount (t i) defaultWords }) (words48 (extended (r i) (m .digest)))
-      (nodeRow (childNode (nodeWith nodeCount (t i) defaultWords) m)))
+      (nodeRow (stashedNode (nodeWith nodeCount (t i) defaultWords) m)))
 
-  pub run-stash : lowestFree nodeCount (treeAt (x .chain)) < nodeCount
+  pub run-stash : nodeWith nodeCount (treeAt (x .chain)) defaultWords < nodeCount → lowestFree nodeCount (treeAt (x .chain)) < nodeCount
       → apply (planAt (imageOf 1 att x) (stash m)) (imageOf 1 att x) ≡ imageOf 1 att (next x (stash m))
   unfolding nextChain runs register holder free
-  run-stash room =
+  run-stash held room =
+      let used = has-used defaultWords (treeAt (x .chain) holder) (with-there nodeCount (treeAt (x .chain)) defaultWords held) in
+      let found = node-at (x .chain) holder used in
       ap (λ (p : List Put). apply p (imageOf 1 att x)) stash-plan
       ∙ mark-run 1 att x (drop 1 runs) 0
       ∙ register-run 0 att x (drop 2 runs) (counted (x .chain) g) stashRegister register (lit< tt)
-      ∙ node-run 0 att x1 (drop 3 runs) c1 free child room
-      ∙ run-fill (drop 4 runs) (imageOf 0 att x2) (nodeAt holder + handleAt) handleWords retiredWord
-      ∙ ap (apply (storesIn (drop 4 runs)))
-      (sets-node 0 att x2 c2 holder handleAt (replicate handleWords retiredWord) old (holder-below (x .chain) g) (lit≤ tt) handle)
-      ∙ mark-run 0 att (withNode x2 holder old) [] 1
-    where
-      child : Node
-      child = childNode holder m
-
-      old : Option Node
-      old = changed (withHandle retiredHandle) (getD (x .chain .nodes) holder none)
-
-      x1 : Contents
-      x1 = withRegister x stashRegister register
-
-      c1 : Counted (x1 .chain)
-      c1 = counted-register (x .chain) stashRegister register (counted (x .chain) g)
-
-      x2 : Contents
-      x2 = withNode x1 free (some child)
-
-      c2 : Counted (x2 .chain)
-      c2 = counted-node (x1 .chain) free (some child) c1
-
-      n : Node
-      n = holder-node (x .chain) g .0
-
-      handle : sets (placeRow (getD (x2 .chain .nodes) holder none)) handleAt (replicate handleWords retiredWord) ≡ placeRow old
-      handle =
-          ap (λ (s : Option Node). sets (placeRow s) handleAt (replicate handleWords retiredWord))
-          (getD-set-other (x .chain .nodes) free holder (some child) none (holder-apart (x .chain) g room) ∙ holder-node (x .chain) g .1)
-          ∙ ap (sets (nodeRow n) handleAt) (sym retired-row)
-          ∙ store-handle n retiredHandle
-          ∙ ap (λ (s : Option Node). placeRow (changed (withHandle retiredHandle) s)) (sym (holder-node (x .chain) g .1))
+      ∙ child-run 0 att (withRegister x stashRegister register) (drop 4 runs) (counted-register (x .chain) stashRegister register (counted (x .chain) g)) free holder
+      (stashedNode holder m) (found .0) room held (free-apart (x .chain) holder used room) (found .1)
+      ∙ mark-run 0 att (next x (stash m)) [] 1
 
 -- ---- an extension
 

@@ -34,7 +34,7 @@ use Rattle.opening.specs.Rules.{inputsOk, bootRules, bootRuling, updateTask}
 use Rattle.opening.specs.Works.{factsOf, workAt}
 use Rattle.opening.specs.Openings.{openedOf, bootedOf, viewIn, openRequest, intact, openUpdateBoot, outcomeOf, outcomeNumber}
 use Rattle.history.specs.Calls.{Call, request, updateBoot, store, answer, entry, powerCut, Result, refusal, opened, booted, stored, answered, recorded, Hand, Machine, Step, afterRequest, afterBoot, afterStore, answerTaken, entryTaken, step, run}
-use Rattle.history.specs.Ledger.{treeAt, stateOf, Job, jobAt, Ledger, viewOf, tears, letGo, ledgerRequest, ledgerBoot, updateRuling, ledgerStore, ledgerAnswer, ledgerEntry, ledgerStep}
+use Rattle.history.specs.Ledger.{stateOf, kindAt, Job, jobAt, Ledger, viewOf, tears, letGo, ledgerRequest, ledgerBoot, updateRuling, ledgerStore, ledgerAnswer, ledgerEntry, ledgerStep}
 use Rattle.history.proofs.Runs.{planAt, plan-answer, length-at}
 use Rattle.history.proofs.Ground.{Ground, broken, Fits, storesAt, isBoot, FitsRuling, ground-length, finish, ruling, rule-same, fits-rule, intact-same, fits-boot, calm, kind-same, index-ok}
 use Rattle.opening.proofs.Decided.{decided, negated}
@@ -43,7 +43,7 @@ use Rattle.opening.proofs.Recorded.{Told, entry-at}
 -- ---- a work in hand, beside the ledger's job, with k stores made
 
 pub record Carried (w : Work) (j : Job) (k : ℕ) : Type 0 where
-  pub index : indexOk (w .kind) ≡ true
+  pub index : indexOk (w .kind) (w .node) ≡ true
   pub short : w .«answer_len» ≤ answerMax
   pub number : numberOf (w .kind) ≡ j .stores
   pub position : w .position ≡ k
@@ -254,7 +254,7 @@ module _ {l : List ℕ} {h : List Task} {t u : Bool} (g : Ground l h t u) (tk : 
           (done (subst (λ (x : Bool). Ground l h t x) (rest z) g) (sym z) (fresh .carried) e)
       go (suc n) z = going {j = job} {k = 0} l u g f fresh refl (omega arith) refl refl e
 
-  kind-now : workAt l tk a .kind ≡ factsOf tk .kind (treeAt (stateOf h .chain))
+  kind-now : workAt l tk a .kind ≡ kindAt (stateOf h .chain) tk
   unfolding workAt workWith
   kind-now = kind-same g tk f
 

@@ -1,6 +1,6 @@
 -- The ledger: document 01's "book". It is fed the cold boot's inputs, then each call with its arguments other than the image and the work, and each
 -- cut; it reads no image and replays no store. Assumes nothing.
-use Prim.Native.Nat.{ℕ, suc, _-_}
+use Prim.Native.Nat.{ℕ, zero, suc, _-_}
 use mathlib.Core.Bool.{Bool, true, false, cond, not, _&&_, _||_}
 use mathlib.Core.List.{List, [], _∷_, _++_, foldl, map}
 use mathlib.Core.Option.{Option, none, some}
@@ -8,13 +8,17 @@ use lib.Dec.{eqb, ltb}
 use lib.ListN.{length, getD, set, replicate, drop}
 use Rattle.layout.specs.Sizes.{nodeCount, registerCount, currentRegister, journeyRegister, stashRegister}
 use Rattle.layout.specs.Words.{words48, zeros, flat}
+use Rattle.layout.specs.Below.{countBelow}
 use Rattle.layout.specs.Refusals as number
 use Rattle.sha384.specs.Entries.{extended}
-use Rattle.tree.specs.Tree.{Tree, defaultWords, rootIn, nodeWith, lowestFree}
+use Rattle.tree.specs.Tree.{Tree, defaultWords, retiredWords, hasHandle, isRoot, rootIn, nodeWith, lowestFree, childless}
 use Rattle.nodes.specs.Record.{Node, retiredHandle, placeRow, withHandle, withCurrent, withCumulative, treeOf}
 use Rattle.table.specs.Table.{numberOf}
-use Rattle.opening.specs.Values.{extendedByBoot, childNode, rootNode}
-use Rattle.opening.specs.Tasks.{BootInputs, Task, noStores, keptBoot, disableCommand, disablingBoot, stash, update, coldBoot, extension, Ruling, refused, accepted, View}
+use Rattle.table.specs.declared.Kind.{Kind}
+use Rattle.table.specs.declared.Kind.the-variants.{Destroy}
+use Rattle.opening.specs.Orders.{NodeCommand, derive, extend, rotate, destroy, malformed, namedIn}
+use Rattle.opening.specs.Values.{extendedByBoot, stashedNode, derivedNode, rootNode}
+use Rattle.opening.specs.Tasks.{BootInputs, Task, noStores, keptBoot, disableCommand, disablingBoot, stash, update, coldBoot, extension, invoke, Ruling, refused, accepted, View}
 use Rattle.opening.specs.Rules.{commandOf, ruled, requestRules, bootRules, bootRuling, updateTask}
 use Rattle.opening.specs.Works.{factsOf}
 use Rattle.opening.specs.Recorded.{entryFor}
@@ -43,9 +47,45 @@ abbrev pub changed : (Node → Node) → Option Node → Option Node
 changed f none = none
 changed f (some n) = some (f n)
 
--- an update's root: current becomes the journey, and the cumulative is extended by it
+-- an update's root, and an extend's node (document 02, §5): current becomes the digest, and the cumulative is extended by it
 abbrev pub renewed : List ℕ → Node → Node
-renewed journey n = withCumulative (extended (n .cumulative) journey) (withCurrent journey n)
+renewed digest n = withCumulative (extended (n .cumulative) digest) (withCurrent digest n)
+
+-- the node at index i changed
+abbrev pub changedAt : (Node → Node) → List (Option Node) → ℕ → List (Option Node)
+changedAt f ns i = set ns i (changed f (getD ns i none))
+
+-- ---- a tree command's effect on the nodes (document 02, §5)
+
+-- a new node at the lowest free index
+abbrev pub grown : List (Option Node) → Node → List (Option Node)
+grown ns child = set ns (lowestFree nodeCount (treeOf ns)) (some child)
+
+-- "any retired ancestor left childless except the root", in the nodes as they now stand
+unfoldable pub leftBehind : List (Option Node) → ℕ → Bool
+leftBehind ns p = hasHandle retiredWords (treeOf ns p) && (not (isRoot (treeOf ns p)) && childless nodeCount (treeOf ns) p)
+
+-- node i is freed; then its parent if it is left behind, and so on upwards, at most s nodes
+unfoldable pub freedFrom : ℕ → List (Option Node) → ℕ → List (Option Node)
+freedFrom zero ns i = ns
+freedFrom (suc s) ns i =
+    let after = set ns i none in
+    let parent = treeOf ns i .parent in
+    cond (leftBehind after parent) (freedFrom s after parent) after
+
+unfoldable pub nextNodes : List (Option Node) → NodeCommand → (fresh : List ℕ) → ℕ → List (Option Node)
+-- "A child goes below the handle's node"; "without retain the parent is retired"
+nextNodes ns (derive handle retain type digest) fresh caller =
+    let parent = namedIn (treeOf ns) (derive handle retain type digest) in
+    let after = grown ns (derivedNode parent fresh type digest caller) in
+    cond (eqb retain 0) (set after parent (changed (withHandle retiredHandle) (getD ns parent none))) after
+-- "Extend sets current and extends cumulative."
+nextNodes ns (extend handle digest) fresh caller = changedAt (renewed digest) ns (namedIn (treeOf ns) (extend handle digest))
+nextNodes ns (rotate handle) fresh caller = changedAt (withHandle fresh) ns (namedIn (treeOf ns) (rotate handle))
+nextNodes ns (destroy handle) fresh caller = freedFrom nodeCount ns (namedIn (treeOf ns) (destroy handle))
+nextNodes ns malformed fresh caller = ns
+
+-- ---- registers and nodes
 
 -- register i extended by a digest
 abbrev pub extendedAt : List (List ℕ) → ℕ → List ℕ → List (List ℕ)
@@ -62,9 +102,7 @@ nextChain x (stash m) =
     let holder = nodeWith nodeCount (treeAt x) defaultWords in
     record {
       registers = extendedAt (x .registers) stashRegister (m .digest);
-      nodes =
-          set (set (x .nodes) (lowestFree nodeCount (treeAt x)) (some (childNode holder m))) holder
-          (changed (withHandle retiredHandle) (getD (x .nodes) holder none));
+      nodes = set (grown (x .nodes) (stashedNode holder m)) holder (changed (withHandle retiredHandle) (getD (x .nodes) holder none));
     }
 -- update: PCR2 begins anew, PCR3 goes on, and the root is renewed
 nextChain x (update b) =
@@ -72,7 +110,7 @@ nextChain x (update b) =
     let root = rootIn nodeCount (treeAt x) in
     record {
       registers = set (set (x .registers) currentRegister (extendedByBoot (zeros 48) b)) journeyRegister journey;
-      nodes = set (x .nodes) root (changed (renewed journey) (getD (x .nodes) root none));
+      nodes = changedAt (renewed journey) (x .nodes) root;
     }
 -- cold boot: PCR2 and PCR3 measured from zero, every other register zero; the root is node 0 and the only node
 nextChain x (coldBoot b) =
@@ -83,6 +121,8 @@ nextChain x (coldBoot b) =
     }
 -- extension: its register, and nothing else (document 02, §1)
 nextChain x (extension e) = record { registers = extendedAt (x .registers) (e .register) (e .digest); nodes = x .nodes }
+-- a tree command: "PCR31 stays", and so does every other register
+nextChain x (invoke o) = record { registers = x .registers; nodes = nextNodes (x .nodes) (o .command) (o .fresh) (o .caller) }
 
 -- and of the secret
 abbrev pub next : Contents → Task → Contents
@@ -159,9 +199,17 @@ tears (some j) made = ltb 0 made && ltb made (j .stores)
 unfoldable pub letGo : Ledger → Ledger
 letGo b = record { history = b .history; hand = none; made = 0; torn = b .torn || tears (b .hand) (b .made); unfinished = b .unfinished }
 
+-- how many nodes are used
+abbrev pub usedIn : List (Option Node) → ℕ
+usedIn ns = countBelow nodeCount (λ i. treeOf ns i .used)
+
+-- the kind of work that a task is at a chain; of a destroy the number of its nodes is the ledger's own: those that are used no more
+unfoldable pub kindAt : Chain → Task → Kind
+kindAt x t = cond (factsOf t .frees) (Destroy (usedIn (x .nodes) - usedIn (nextChain x t .nodes))) (factsOf t .kind (treeAt x))
+
 -- a task with its answer, opened at a chain
 abbrev pub jobAt : Chain → Task → List ℕ → Job
-jobAt x t a = record { task = t; stores = numberOf (factsOf t .kind (treeAt x)); answer = a }
+jobAt x t a = record { task = t; stores = numberOf (kindAt x t); answer = a }
 
 -- a new work "becomes the one in hand"
 abbrev pub takeUp : Ledger → Job → Ledger
@@ -171,7 +219,7 @@ abbrev pub ledgerRequest : Ledger → Ruling → Step Ledger
 ledgerRequest b (refused n) = record { state = b; result = refusal n }
 ledgerRequest b (accepted t a) =
     let j = jobAt (chainOf b) t a in
-    record { state = takeUp (letGo b) j; result = opened (factsOf t .kind (treeAt (chainOf b))) (j .stores) a }
+    record { state = takeUp (letGo b) j; result = opened (kindAt (chainOf b) t) (j .stores) a }
 
 abbrev pub ledgerBoot : Ledger → Ruling → Step Ledger
 ledgerBoot b (refused n) = record { state = b; result = refusal n }
@@ -179,7 +227,7 @@ ledgerBoot b (accepted t a) =
     let j = jobAt (chainOf b) t a in
     record {
       state = takeUp (letGo b) j;
-      result = booted (outcomeNumber (outcomeOf (factsOf t .boot))) (factsOf t .kind (treeAt (chainOf b))) (j .stores);
+      result = booted (outcomeNumber (outcomeOf (factsOf t .boot))) (kindAt (chainOf b) t) (j .stores);
     }
 
 -- an update boot: the work in hand goes first, so a torn one makes it a disabling; else ROM's verdict decides

@@ -1,7 +1,6 @@
 -- One entry's bytes read and counted, as the code's structs tell it. Assumes nothing.
 use Prim.Native.Nat.{ℕ, _+_, _<_}
-use mathlib.Core.Path.{_≡_, refl, sym, ap, _∙_}
-use mathlib.Core.Logic.{⊎-elim}
+use mathlib.Core.Path.{_≡_, sym, ap, _∙_}
 use mathlib.Core.Bool.{true, false, true≢false}
 use mathlib.Core.List.{List, [], _∷_, foldl, foldl-append}
 use mathlib.Core.Option.{Option, none, some}
@@ -11,12 +10,10 @@ use lib.ListN.{length, getD, take, set}
 use lib.Seq.{take-suc}
 use borrow.Author.Tests.{lt-leb, eq-eqb, ne-eqb}
 use Rattle.layout.specs.Refusals.{cutEntry, uncounted}
-use Rattle.journal.specs.Read.{Read, refused, got, mapRead}
-use Rattle.journal.specs.Fields.{Values, readFields}
-use Rattle.journal.specs.Entries.{Entry, coldBoot, update, disabling, stash, extension, Form, formAt, fieldsOf, entryOf, readForm, readEntry, longest}
-use Rattle.journal.proofs.Behind.{Leaves, fields-leave}
-use Rattle.journal_bytes.specs.Results.{partsOf, entryIn, refusedEntry, entryTold, entryRead}
+use Rattle.journal.specs.Entries.{readEntry, longest}
+use Rattle.journal_bytes.specs.Results.{entryIn, entryRead}
 use Rattle.journal_bytes.specs.declared.read.EntryRead.{EntryRead}
+use Rattle.journal_bytes.proofs.Entries.{entry-got, entry-not}
 use Rattle.recount.specs.OnImage.{madeOn, isMade, imageAfter}
 use Rattle.replaying.specs.Report.{journalMax}
 use Rattle.inspection.specs.declared.reader.Reader.{Reader}
@@ -36,62 +33,17 @@ module _ (r : Reader) (saved scratch after : List ℕ) (b : ℕ) where
   has-counted (some l) h e =
       ap (λ (l : List ℕ). stageOf (readerOf (r .seen) 0 (r .offset + (r .held + 1)) 0 (set (r .waiting) (r .held) b)) saved l) e
 
--- ---- what was read
+-- ---- what was read, by what the struct says: 22 waits, another number refuses, and 0 is an entry
 
--- no refusal has the number 0
-abbrev Numbered : Read Entry → Type 0
-Numbered (refused n) = n ≡ 0 → ⊥
-Numbered (got e rest) = Unit {0}
+module _ (x : Stage) (b : ℕ) (l : List ℕ) (r : EntryRead) (e : r ≡ entryRead l) where
+  pub read-waits : r .number ≡ cutEntry → readWith x b (readEntry l) ≡ waitingWith x b
+  read-waits h = ap (readWith x b) (entry-not l r e (λ z. omega arith)) ∙ rw (eq-eqb (r .number) cutEntry h)
 
-fields-numbered : (f : Form) (l : List ℕ) (x : Read (Values (fieldsOf f))) → Leaves l x → Numbered (mapRead (entryOf f) x)
-fields-numbered f l (refused n) h = λ z. ⊎-elim (λ e. omega arith) (λ e. omega arith) h
-fields-numbered f l (got vs rest) h = tt
+  pub read-refuses : (r .number ≡ cutEntry → ⊥) → (r .number ≡ 0 → ⊥) → readWith x b (readEntry l) ≡ refusedWith x (r .number)
+  read-refuses h z = ap (readWith x b) (entry-not l r e z) ∙ rw (ne-eqb (r .number) cutEntry h)
 
-form-numbered : (o : Option Form) (l : List ℕ) → Numbered (readForm o l)
-form-numbered none l = λ z. omega arith
-form-numbered (some f) l = fields-numbered f l (readFields (fieldsOf f) l) (fields-leave (fieldsOf f) l)
-
-numbered : (l : List ℕ) → Numbered (readEntry l)
-unfolding readEntry
-numbered [] = λ z. omega arith
-numbered (k ∷ l) = form-numbered (formAt k) l
-
--- the parts of an entry are that entry's
-entry-back : (e : Entry) → entryIn (partsOf e) ≡ e
-unfolding entryIn partsOf
-entry-back (coldBoot r m) = refl
-entry-back (update r m) = refl
-entry-back disabling = refl
-entry-back (stash t d s c) = refl
-entry-back (extension r d) = refl
-
--- by what the struct says: 22 waits, another number refuses, and 0 is an entry
-module _ (x : Stage) (b : ℕ) (l : List ℕ) (r : EntryRead) where
-  pub read-waits : r ≡ entryRead l → r .number ≡ cutEntry → readWith x b (readEntry l) ≡ waitingWith x b
-  unfolding entryRead refusedEntry
-  read-waits = go (readEntry l)
-    where
-      go : (y : Read Entry) → r ≡ entryTold l y → r .number ≡ cutEntry → readWith x b y ≡ waitingWith x b
-      go (refused n) e h = rw (eq-eqb n cutEntry (sym (ap (λ (r : EntryRead). r .number) e) ∙ h))
-      go (got v rest) e h = absurd (omega (arith, ap (λ (r : EntryRead). r .number) e))
-
-  pub read-refuses : r ≡ entryRead l → (r .number ≡ cutEntry → ⊥) → (r .number ≡ 0 → ⊥) → readWith x b (readEntry l) ≡ refusedWith x (r .number)
-  unfolding entryRead refusedEntry
-  read-refuses = go (readEntry l)
-    where
-      go : (y : Read Entry) → r ≡ entryTold l y → (r .number ≡ cutEntry → ⊥) → (r .number ≡ 0 → ⊥) → readWith x b y ≡ refusedWith x (r .number)
-      go (refused n) e h z = let p : r .number ≡ n = ap (λ (r : EntryRead). r .number) e in rw (ne-eqb n cutEntry (λ q. h (p ∙ q)), p)
-      go (got v rest) e h z = absurd (z (ap (λ (r : EntryRead). r .number) e))
-
-  pub read-counts : r ≡ entryRead l → r .number ≡ 0 → readWith x b (readEntry l) ≡ countedWith x b (madeOn (x .scratch) (entryIn (r .entry)))
-  unfolding entryRead refusedEntry
-  read-counts = go (readEntry l) (numbered l)
-    where
-      go : (y : Read Entry) → Numbered y → r ≡ entryTold l y → r .number ≡ 0
-          → readWith x b y ≡ countedWith x b (madeOn (x .scratch) (entryIn (r .entry)))
-      go (refused n) h e z = absurd (h (sym (ap (λ (r : EntryRead). r .number) e) ∙ z))
-      go (got v rest) h e z =
-          ap (λ (w : Entry). countedWith x b (madeOn (x .scratch) w)) (sym (entry-back v) ∙ ap (λ (r : EntryRead). entryIn (r .entry)) (sym e))
+  pub read-counts : r .number ≡ 0 → readWith x b (readEntry l) ≡ countedWith x b (madeOn (x .scratch) (entryIn (r .entry)))
+  read-counts z = ap (readWith x b) (entry-got l r e z .0)
 
 -- ---- a byte of the journal that is read
 

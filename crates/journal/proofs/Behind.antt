@@ -14,7 +14,7 @@ use Rattle.layout.specs.Refusals.{unlistedKind, badNumber, cutEntry}
 use Rattle.journal.specs.Read.{Read, refused, got, andThen, mapRead}
 use Rattle.journal.specs.Numbers.{under, isLast, isNeeded, isTop, wrongByte, readLater, readNumber}
 use Rattle.journal.specs.Fields.{Field, number, plain, Value, Values, readField, readFields}
-use Rattle.journal.specs.Entries.{Entry, Form, coldBootForm, updateForm, disablingForm, stashForm, extensionForm, formAt, fieldsOf, entryOf, readForm, readEntry, longest}
+use Rattle.journal.specs.Entries.{Entry, Form, coldBootForm, updateForm, disablingForm, stashForm, extensionForm, deriveForm, extendForm, rotateForm, destroyForm, formAt, fieldsOf, entryOf, readForm, readEntry, longest}
 use Rattle.journal.specs.Statements.{Grows, Stays, Takes, TakesFew}
 use Rattle.journal.proofs.Says.{by-test}
 
@@ -146,6 +146,10 @@ form-fits updateForm = omega arith
 form-fits disablingForm = omega arith
 form-fits stashForm = omega arith
 form-fits extensionForm = omega arith
+form-fits deriveForm = omega arith
+form-fits extendForm = omega arith
+form-fits rotateForm = omega arith
+form-fits destroyForm = omega arith
 
 form-takes : (k : ℕ) (o : Option Form) (l : List ℕ) → Takes 1 longest (k ∷ l) (readForm o l)
 form-takes k none l = λ e. absurd (omega arith)

@@ -9,10 +9,10 @@ use borrow.Author.Tests.{eqb-true}
 use Rattle.layout.specs.Refusals.{cutEntry}
 use Rattle.journal.specs.Read.{refused, got}
 use Rattle.journal.specs.Fields.{Values, FieldsOk, fieldsBytes, readFields}
-use Rattle.journal.specs.Entries.{Entry, coldBoot, update, disabling, stash, extension, Form, coldBootForm, updateForm, disablingForm, stashForm, extensionForm, kindByte, forms, formIn, formAt, fieldsOf, formOf, valuesOf, entryOf, EntryOk, entryBytes, readForm, readEntry}
+use Rattle.journal.specs.Entries.{Entry, coldBoot, update, disabling, stash, extension, derive, extend, rotate, destroy, Form, coldBootForm, updateForm, disablingForm, stashForm, extensionForm, deriveForm, extendForm, rotateForm, destroyForm, kindByte, forms, formIn, formAt, fieldsOf, formOf, valuesOf, entryOf, EntryOk, entryBytes, readForm, readEntry}
 use Rattle.journal.specs.Statements.{Bytes, Laid}
 use Rattle.journal.proofs.Says.{Says, says-map, by-test}
-use Rattle.journal.proofs.Fields.{read-fields, FieldsAre, fields-say}
+use Rattle.journal.proofs.Fields.{read-fields, FieldsAre, fields-say, FieldsSized, fields-sized}
 
 -- an entry is its form and values
 pub same-entry : (e : Entry) → entryOf (formOf e) (valuesOf e) ≡ e
@@ -21,6 +21,10 @@ same-entry (update r m) = refl
 same-entry disabling = refl
 same-entry (stash t d s c) = refl
 same-entry (extension r d) = refl
+same-entry (derive h r t d f c) = refl
+same-entry (extend h d c) = refl
+same-entry (rotate h f c) = refl
+same-entry (destroy h c) = refl
 
 pub same-form : (f : Form) → formAt (kindByte f) ≡ some f
 same-form coldBootForm = refl
@@ -28,6 +32,10 @@ same-form updateForm = refl
 same-form disablingForm = refl
 same-form stashForm = refl
 same-form extensionForm = refl
+same-form deriveForm = refl
+same-form extendForm = refl
+same-form rotateForm = refl
+same-form destroyForm = refl
 
 pub entry-bytes : (f : Form) (vs : Values (fieldsOf f)) → entryBytes (entryOf f vs) ≡ kindByte f ∷ fieldsBytes (fieldsOf f) vs
 unfolding entryBytes
@@ -36,6 +44,10 @@ entry-bytes updateForm vs = refl
 entry-bytes disablingForm vs = refl
 entry-bytes stashForm vs = refl
 entry-bytes extensionForm vs = refl
+entry-bytes deriveForm vs = refl
+entry-bytes extendForm vs = refl
+entry-bytes rotateForm vs = refl
+entry-bytes destroyForm vs = refl
 
 pub entry-ok : (f : Form) (vs : Values (fieldsOf f)) → FieldsOk (fieldsOf f) vs → EntryOk (entryOf f vs)
 entry-ok coldBootForm vs h = h
@@ -43,6 +55,10 @@ entry-ok updateForm vs h = h
 entry-ok disablingForm vs h = h
 entry-ok stashForm vs h = h
 entry-ok extensionForm vs h = h
+entry-ok deriveForm vs h = h
+entry-ok extendForm vs h = h
+entry-ok rotateForm vs h = h
+entry-ok destroyForm vs h = h
 
 pub laid : Laid
 unfolding entryBytes
@@ -53,6 +69,10 @@ laid =
       disabling = refl;
       stash = λ t d s c. simp (append-nil, append-assoc);
       extension = λ r d. simp append-nil;
+      derive = λ h r t d f c. simp (append-nil, append-assoc);
+      extend = λ h d c. simp (append-nil, append-assoc);
+      rotate = λ h f c. simp (append-nil, append-assoc);
+      destroy = λ h c. simp append-nil;
     }
 
 -- ---- what is written is read back
@@ -93,3 +113,31 @@ pub entry-says : (l : List ℕ) → Bytes l → Says (EntryIs l) (readEntry l)
 unfolding readEntry
 entry-says [] s = tt
 entry-says (k ∷ l) s = form-says k l (formAt k) (λ i. s (suc i)) (found k forms)
+
+-- ---- digests and handles that are read have their lengths, whether or not the list's numbers are bytes
+
+abbrev pub EntrySized : Entry → Type 0
+EntrySized e = FieldsSized (fieldsOf (formOf e)) (valuesOf e)
+
+entry-of-sized : (f : Form) (vs : Values (fieldsOf f)) → FieldsSized (fieldsOf f) vs → EntrySized (entryOf f vs)
+entry-of-sized coldBootForm vs h = h
+entry-of-sized updateForm vs h = h
+entry-of-sized disablingForm vs h = h
+entry-of-sized stashForm vs h = h
+entry-of-sized extensionForm vs h = h
+entry-of-sized deriveForm vs h = h
+entry-of-sized extendForm vs h = h
+entry-of-sized rotateForm vs h = h
+entry-of-sized destroyForm vs h = h
+
+form-sized : (o : Option Form) (l : List ℕ) → Says (λ e rest. EntrySized e) (readForm o l)
+form-sized none l = tt
+form-sized (some f) l =
+    says-map (entryOf f) (λ vs rest. FieldsSized (fieldsOf f) vs) (λ e rest. EntrySized e) (readFields (fieldsOf f) l)
+    (λ vs rest h. entry-of-sized f vs h)
+    (fields-sized (fieldsOf f) l)
+
+pub entry-sized : (l : List ℕ) → Says (λ e rest. EntrySized e) (readEntry l)
+unfolding readEntry
+entry-sized [] = tt
+entry-sized (k ∷ l) = form-sized (formAt k) l

@@ -9,7 +9,8 @@ use lib.Seq.{take-at, drop-at, length-take-le}
 use lib.Dec.{leb}
 use borrow.Author.Tests.{le-leb, leb-true}
 use Rattle.layout.specs.Refusals.{cutEntry}
-use Rattle.journal.specs.Read.{refused, got, mapRead}
+use Rattle.journal.specs.Read.{Read, refused, got, andThen, mapRead}
+use Rattle.journal.specs.Numbers.{readNumber}
 use Rattle.journal.specs.Fields.{Field, number, plain, Value, Values, FieldOk, FieldsOk, fieldBytes, fieldsBytes, readField, readFields}
 use Rattle.journal.specs.Statements.{Bytes}
 use Rattle.journal.proofs.Bytes.{bytes-rest}
@@ -28,6 +29,39 @@ unfolding readFields
 read-fields [] vs l h = refl
 read-fields (f ∷ fs) vs l h =
     rw (append-assoc, read-field f (vs .0) (fieldsBytes fs (vs .1) ++ l) (h .0), read-fields fs (vs .1) l (h .1))
+
+-- ---- fields behind fields
+
+abbrev pub join : (fs gs : List Field) → Values fs → Values gs → Values (fs ++ gs)
+join [] gs vs ws = ws
+join (f ∷ fs) gs vs ws = (vs .0, join fs gs (vs .1) ws)
+
+pub fields-append : (fs gs : List Field) (l : List ℕ)
+    → readFields (fs ++ gs) l ≡ andThen (readFields fs l) (λ vs rest. mapRead (join fs gs vs) (readFields gs rest))
+unfolding readFields
+fields-append [] gs l = same (readFields gs l)
+  where
+    same : (x : Read (Values gs)) → x ≡ mapRead (λ ws. ws) x
+    same (refused n) = refl
+    same (got ws rest) = refl
+fields-append (f ∷ fs) gs l = by-first (readField f l) (λ rest. fields-append fs gs rest)
+  where
+    by-rest : (v : Value f) (x : Read (Values fs))
+        → mapRead (λ ws. (v, ws)) (andThen x (λ vs rest. mapRead (join fs gs vs) (readFields gs rest)))
+        ≡ andThen (mapRead (λ vs. (v, vs)) x) (λ vs rest. mapRead (join (f ∷ fs) gs vs) (readFields gs rest))
+    by-rest v (refused n) = refl
+    by-rest v (got vs rest) = twice (readFields gs rest)
+      where
+        twice : (y : Read (Values gs)) → mapRead (λ ws. (v, ws)) (mapRead (join fs gs vs) y) ≡ mapRead (join (f ∷ fs) gs (v, vs)) y
+        twice (refused n) = refl
+        twice (got ws rest) = refl
+
+    by-first : (x : Read (Value f))
+        → ((rest : List ℕ) → readFields (fs ++ gs) rest ≡ andThen (readFields fs rest) (λ vs rest. mapRead (join fs gs vs) (readFields gs rest)))
+        → andThen x (λ v rest. mapRead (λ ws. (v, ws)) (readFields (fs ++ gs) rest))
+        ≡ andThen (andThen x (λ v rest. mapRead (λ vs. (v, vs)) (readFields fs rest))) (λ vs rest. mapRead (join (f ∷ fs) gs vs) (readFields gs rest))
+    by-first (refused n) k = refl
+    by-first (got v rest) k = ap (mapRead (λ ws. (v, ws))) (k rest) ∙ by-rest v (readFields fs rest)
 
 -- ---- what is read is what is written
 
@@ -57,3 +91,34 @@ fields-say (f ∷ fs) l s =
         says-map (λ vs. (v, vs)) (FieldsAre fs rest) (FieldsAre (f ∷ fs) l) (readFields fs rest)
         (λ vs behind q. (append-assoc (fieldBytes f v) (fieldsBytes fs vs) behind ∙ ap (λ (t : List ℕ). fieldBytes f v ++ t) (q .0) ∙ p .0, (p .1, q .1)))
         h
+
+-- ---- plain bytes that are read have their number, whether or not the list's numbers are bytes
+
+abbrev pub FieldSized : (f : Field) → Value f → Type 0
+FieldSized number v = Unit {0}
+FieldSized (plain n) v = length v ≡ n
+
+abbrev pub FieldsSized : (fs : List Field) → Values fs → Type 0
+FieldsSized [] vs = Unit {0}
+FieldsSized (f ∷ fs) vs = FieldSized f (vs .0) × FieldsSized fs (vs .1)
+
+field-sized : (f : Field) (l : List ℕ) → Says (λ v rest. FieldSized f v) (readField f l)
+field-sized number l = any-number (readNumber l)
+  where
+    any-number : (x : Read ℕ) → Says (λ v rest. Unit {0}) x
+    any-number (refused n) = tt
+    any-number (got v rest) = tt
+field-sized (plain n) l =
+    by-test (λ t. Says (λ v rest. FieldSized (plain n) v) (cond t (got (take n l) (drop n l)) (refused cutEntry))) (leb n (length l))
+    (λ e. length-take-le n l (leb-true n (length l) e))
+    (λ e. tt)
+
+pub fields-sized : (fs : List Field) (l : List ℕ) → Says (λ vs rest. FieldsSized fs vs) (readFields fs l)
+unfolding readFields
+fields-sized [] l = tt
+fields-sized (f ∷ fs) l =
+    says-then (λ v rest. mapRead (λ vs. (v, vs)) (readFields fs rest)) (λ v rest. FieldSized f v) (λ vs rest. FieldsSized (f ∷ fs) vs) (readField f l)
+    (λ v rest h. says-map (λ vs. (v, vs)) (λ vs rest. FieldsSized fs vs) (λ vs rest. FieldsSized (f ∷ fs) vs) (readFields fs rest)
+    (λ vs behind q. (h, q))
+    (fields-sized fs rest))
+    (field-sized f l)

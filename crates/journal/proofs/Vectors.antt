@@ -1,11 +1,11 @@
 -- Worked values: document 02's two examples, and where reading stops. Assumes nothing.
 use mathlib.Core.Path.{_≡_, refl}
-use mathlib.Core.List.{[], _∷_}
-use lib.ListN.{replicate}
+use mathlib.Core.List.{[], _∷_, _++_}
+use lib.ListN.{length, replicate}
 use Rattle.journal.specs.Read.{refused, got}
 use Rattle.journal.specs.Numbers.{groups, numberBytes, readLater, readNumber}
 use Rattle.journal.specs.Fields.{readFields}
-use Rattle.journal.specs.Entries.{coldBoot, disabling, entryBytes, journalBytes, readEntry}
+use Rattle.journal.specs.Entries.{coldBoot, disabling, derive, entryBytes, longest, journalBytes, readEntry}
 use Rattle.journal.specs.Journal.{stopped, walkFor, walk, readJournal}
 
 -- "The caller 300 is `AC 02`"
@@ -56,6 +56,25 @@ bad-number-in-a-cut-stash : readJournal (3 ∷ 4 ∷ 0x80 ∷ 0x00 ∷ []) ≡ s
 unfolding walk walkFor readEntry readFields readNumber readLater
 bad-number-in-a-cut-stash = refl
 
-kind-six : readJournal (3 ∷ 3 ∷ 6 ∷ []) ≡ stopped 20 2
+-- kinds 6 to 9 (§5): a retain above 1 is a fault of no form, one that is not in shortest form is
+whole-derive : readEntry (6 ∷ (replicate 20 1 ++ 2 ∷ 3 ∷ (replicate 48 4 ++ (replicate 20 5 ++ 0xAC ∷ 0x02 ∷ []))))
+    ≡ got (derive (replicate 20 1) 2 3 (replicate 48 4) (replicate 20 5) 300) []
+unfolding readEntry readFields readNumber readLater
+whole-derive = refl
+
+retain-not-shortest : readEntry (6 ∷ (replicate 20 1 ++ 0x81 ∷ 0x00 ∷ [])) ≡ refused 21
+unfolding readEntry readFields readNumber readLater
+retain-not-shortest = refl
+
+-- a handle of 19 bytes is cut
+cut-destroy : readEntry (9 ∷ replicate 19 7) ≡ refused 22
+unfolding readEntry readFields
+cut-destroy = refl
+
+longest-derive : length (entryBytes (derive (replicate 20 1) 0xFFFFFFFF 0xFFFFFFFF (replicate 48 4) (replicate 20 5) 0xFFFFFFFF)) ≡ longest
+unfolding entryBytes groups
+longest-derive = refl
+
+kind-ten : readJournal (3 ∷ 3 ∷ 10 ∷ []) ≡ stopped 20 2
 unfolding walk walkFor readEntry readFields
-kind-six = refl
+kind-ten = refl

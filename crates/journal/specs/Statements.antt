@@ -7,7 +7,7 @@ use lib.ListN.{getD, length}
 use Rattle.layout.specs.Refusals.{unlistedKind, badNumber, cutEntry}
 use Rattle.journal.specs.Read.{Read, refused, got}
 use Rattle.journal.specs.Numbers.{numberBytes}
-use Rattle.journal.specs.Entries.{Entry, coldBoot, update, disabling, stash, extension, EntryOk, EntriesOk, entryBytes, journalBytes, readEntry, longest}
+use Rattle.journal.specs.Entries.{Entry, coldBoot, update, disabling, stash, extension, derive, extend, rotate, destroy, EntryOk, EntriesOk, entryBytes, journalBytes, readEntry, longest}
 use Rattle.journal.specs.Journal.{stopped, ended, readJournal}
 
 -- every number of a list is a byte
@@ -17,7 +17,7 @@ Bytes l = (i : ℕ) → getD l i 0 < 256
 -- ---- the bytes of an entry
 
 -- "one byte of kind (1 cold boot, 2 update, 3 disabling, 4 stash, 5 extension), then a boot's digests, a stash's type, digest, svn and caller, or
--- an extension's register and digest"
+-- an extension's register and digest"; kinds 6 to 9 (§5): "the data after its 1 to 4, the fresh handle if any, the caller"
 pub record Laid : Type 0 where
   pub coldBoot : (runtime manifest : List ℕ) → entryBytes (coldBoot runtime manifest) ≡ 1 ∷ (runtime ++ manifest)
   pub update : (runtime manifest : List ℕ) → entryBytes (update runtime manifest) ≡ 2 ∷ (runtime ++ manifest)
@@ -25,6 +25,12 @@ pub record Laid : Type 0 where
   pub stash : (type : ℕ) (digest : List ℕ) (svn caller : ℕ)
       → entryBytes (stash type digest svn caller) ≡ 4 ∷ (numberBytes type ++ digest ++ numberBytes svn ++ numberBytes caller)
   pub extension : (register : ℕ) (digest : List ℕ) → entryBytes (extension register digest) ≡ 5 ∷ (numberBytes register ++ digest)
+  pub derive : (handle : List ℕ) (retain type : ℕ) (digest fresh : List ℕ) (caller : ℕ)
+      → entryBytes (derive handle retain type digest fresh caller)
+      ≡ 6 ∷ (handle ++ numberBytes retain ++ numberBytes type ++ digest ++ fresh ++ numberBytes caller)
+  pub extend : (handle digest : List ℕ) (caller : ℕ) → entryBytes (extend handle digest caller) ≡ 7 ∷ (handle ++ digest ++ numberBytes caller)
+  pub rotate : (handle fresh : List ℕ) (caller : ℕ) → entryBytes (rotate handle fresh caller) ≡ 8 ∷ (handle ++ fresh ++ numberBytes caller)
+  pub destroy : (handle : List ℕ) (caller : ℕ) → entryBytes (destroy handle caller) ≡ 9 ∷ (handle ++ numberBytes caller)
 
 -- ---- a list of entries and its journal
 

@@ -3,28 +3,16 @@ use Prim.Native.Nat.{ℕ}
 use mathlib.Core.Path.{_≡_}
 use mathlib.Core.Logic.{_⊎_}
 use mathlib.Core.List.{List}
-use Rattle.layout.specs.Words.{zeros}
-use Rattle.journal.specs.Read.{Read, refused, got}
 use Rattle.journal.specs.Numbers.{readLater}
-use Rattle.journal.specs.Fields.{readField}
-use Rattle.journal.specs.Entries.{digest, kindByte, coldBootForm, updateForm}
+use Rattle.journal.specs.Entries.{kindByte, coldBootForm, updateForm}
 use Rattle.journal_bytes.specs.declared.entry.EntryKind.{EntryKind}
 use Rattle.journal_bytes.specs.declared.entry.EntryKind.the-variants.{ColdBoot, Update}
 use Rattle.journal_bytes.specs.declared.number.NumberRead.{NumberRead}
-use Rattle.journal_bytes.specs.declared.read.DigestRead.{DigestRead}
 use Rattle.journal_bytes.specs.Results.{numberTold}
 
 -- a number's groups after its first, of which n more may follow this one
 unfoldable pub laterRead : ℕ → List ℕ → NumberRead
 laterRead n l = numberTold l (readLater n l)
-
-abbrev pub digestTold : Read (List ℕ) → DigestRead
-digestTold (refused n) = record { number = n; bytes = zeros 48 }
-digestTold (got d rest) = record { number = 0; bytes = d }
-
--- a digest
-unfoldable pub digestRead : List ℕ → DigestRead
-digestRead l = digestTold (readField digest l)
 
 -- the byte of a boot's kind
 abbrev pub BootKind : ℕ → EntryKind → Type 0

@@ -24,6 +24,7 @@ image-figures =
       tag = refl;
       handle = refl;
       handleSize = refl;
+      handleLength = refl;
       flags = refl;
       nodeCurrent = refl;
       nodeCumulative = refl;

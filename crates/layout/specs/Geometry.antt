@@ -1,5 +1,5 @@
 -- The geometry as one record, to which the code's constants are tied. Assumes nothing.
-use Rattle.layout.specs.Sizes.{nodeCount, nodeWords, registerCount, registerWords, markAt, attestationAt, secretAt, registersAt, nodesAt, imageWords, registerAt, currentRegister, journeyRegister, stashRegister, extendFirst, extendLast, handleAt, handleWords, flagsAt, currentAt, cumulativeAt, typeAt, localityAt, svnAt, rootMark, retiredWord, internalFlag, rootType, answerMax, inputBytes}
+use Rattle.layout.specs.Sizes.{nodeCount, nodeWords, registerCount, registerWords, markAt, attestationAt, secretAt, registersAt, nodesAt, imageWords, registerAt, currentRegister, journeyRegister, stashRegister, extendFirst, extendLast, handleAt, handleWords, handleBytes, flagsAt, currentAt, cumulativeAt, typeAt, localityAt, svnAt, rootMark, retiredWord, internalFlag, rootType, answerMax, inputBytes}
 use Rattle.layout.specs.declared.geometry.Geometry.{Geometry}
 
 abbrev pub geometryOf : Geometry
@@ -23,6 +23,7 @@ geometryOf =
       «extend_last» = extendLast;
       «handle_at» = handleAt;
       «handle_words» = handleWords;
+      «handle_bytes» = handleBytes;
       «flags_at» = flagsAt;
       «current_at» = currentAt;
       «cumulative_at» = cumulativeAt;

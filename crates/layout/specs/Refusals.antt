@@ -57,7 +57,7 @@ wrongRegister = 12
 abbrev pub attestationOff : ℕ
 attestationOff = 13
 
--- the dpe results: an accepted stash 0, "1 if all .. nodes are used", "2 if attestation is off"
+-- the dpe results, of a stash and of a tree command (document 02, §5): accepted 0, "1 if all .. nodes are used", "2 if attestation is off"
 abbrev pub dpeAccepted : ℕ
 dpeAccepted = 0
 
@@ -66,6 +66,34 @@ dpeFull = 1
 
 abbrev pub dpeOff : ℕ
 dpeOff = 2
+
+-- "a stash without" a default holder
+abbrev pub dpeNoHolder : ℕ
+dpeNoHolder = 3
+
+-- "5 data malformed"
+abbrev pub dpeMalformed : ℕ
+dpeMalformed = 5
+
+-- "6 handle retired or held by no node"
+abbrev pub dpeNoHandle : ℕ
+dpeNoHandle = 6
+
+-- "7 caller unlike the node's locality"
+abbrev pub dpeCaller : ℕ
+dpeCaller = 7
+
+-- "8 .. fresh handle not 20 bytes, zero, all 0xFF or in use"
+abbrev pub dpeFresh : ℕ
+dpeFresh = 8
+
+-- "9 extend or destroy of the root"
+abbrev pub dpeRoot : ℕ
+dpeRoot = 9
+
+-- "10 destroy of a node with children"
+abbrev pub dpeChildren : ℕ
+dpeChildren = 10
 
 -- the journal (document 02, §3): "20 kind not listed, 21 number too long or too large, 22 cut entry"
 abbrev pub unlistedKind : ℕ

@@ -81,6 +81,10 @@ handleAt = 2
 abbrev pub handleWords : ℕ
 handleWords = 5
 
+-- the bytes of a handle: 20
+abbrev pub handleBytes : ℕ
+handleBytes = 4 * handleWords
+
 abbrev pub flagsAt : ℕ
 flagsAt = 7
 
@@ -119,7 +123,7 @@ rootType = 0x4D4A5452
 abbrev pub answerMax : ℕ
 answerMax = 104
 
--- the inputs that a work keeps for its journal entry (document 02, §3): a boot's two digests, or the one digest of a stash or an extension
--- with zeros behind it
+-- the inputs that a work keeps for its journal entry (document 02, §3): a boot's two digests; the one digest of a stash or an extension with
+-- zeros behind it; or a tree command's digest, handle and fresh handle (§5)
 abbrev pub inputBytes : ℕ
 inputBytes = 96

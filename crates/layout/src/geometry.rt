@@ -10,6 +10,7 @@ use crate::EXTEND_FIRST;
 use crate::EXTEND_LAST;
 use crate::FLAGS_AT;
 use crate::HANDLE_AT;
+use crate::HANDLE_BYTES;
 use crate::HANDLE_WORDS;
 use crate::IMAGE_WORDS;
 use crate::INPUT_BYTES;
@@ -52,6 +53,7 @@ pub struct Geometry {
     pub extend_last: usize,
     pub handle_at: usize,
     pub handle_words: usize,
+    pub handle_bytes: usize,
     pub flags_at: usize,
     pub current_at: usize,
     pub cumulative_at: usize,
@@ -88,6 +90,7 @@ pub fn constants() -> Geometry
         extend_last: EXTEND_LAST,
         handle_at: HANDLE_AT,
         handle_words: HANDLE_WORDS,
+        handle_bytes: HANDLE_BYTES,
         flags_at: FLAGS_AT,
         current_at: CURRENT_AT,
         cumulative_at: CUMULATIVE_AT,

@@ -47,6 +47,8 @@ pub const HANDLE_AT: usize = 2;
 
 pub const HANDLE_WORDS: usize = 5;
 
+pub const HANDLE_BYTES: usize = 4 * HANDLE_WORDS;
+
 pub const FLAGS_AT: usize = 7;
 
 pub const CURRENT_AT: usize = 8;
@@ -71,5 +73,6 @@ pub const ROOT_TYPE: u32 = 0x4D4A5452;
 // The longest answer, in bytes.
 pub const ANSWER_MAX: usize = 104;
 
-// The inputs that a work keeps for its journal entry, in bytes: a boot's two digests.
+// The inputs that a work keeps for its journal entry, in bytes: a boot's two digests, which no other kind
+// exceeds.
 pub const INPUT_BYTES: usize = 96;

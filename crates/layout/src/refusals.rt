@@ -29,12 +29,26 @@ pub const WRONG_REGISTER: u32 = 12;
 
 pub const ATTESTATION_OFF: u32 = 13;
 
-// The dpe results of a stash.
+// The dpe results of a stash and of a tree command.
 pub const DPE_ACCEPTED: u32 = 0;
 
 pub const DPE_FULL: u32 = 1;
 
 pub const DPE_OFF: u32 = 2;
+
+pub const DPE_NO_HOLDER: u32 = 3;
+
+pub const DPE_MALFORMED: u32 = 5;
+
+pub const DPE_NO_HANDLE: u32 = 6;
+
+pub const DPE_CALLER: u32 = 7;
+
+pub const DPE_FRESH: u32 = 8;
+
+pub const DPE_ROOT: u32 = 9;
+
+pub const DPE_CHILDREN: u32 = 10;
 
 // The journal's.
 pub const UNLISTED_KIND: u32 = 20;

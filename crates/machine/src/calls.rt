@@ -65,12 +65,13 @@ pub(crate) fn request_call(
     caller: u32,
     handoff: &[u8],
     verdict: bool,
+    fresh: &[u8],
 ) -> Made
-    ensures { λ r. ⌜ Makes r (now (image .entry)) (step (machineOf (now (image .entry)) hand) (request (requestOf code (now (bytes .entry)) caller (now (handoff .entry)) verdict))) ⌝ }
+    ensures { λ r. ⌜ Makes r (now (image .entry)) (step (machineOf (now (image .entry)) hand) (request (requestOf code (now (bytes .entry)) caller (now (handoff .entry)) verdict (now (fresh .entry))))) ⌝ }
 {
     after_request(
         hand,
-        open_request(image, code, bytes, caller, handoff, verdict),
+        open_request(image, code, bytes, caller, handoff, verdict, fresh),
     )
 }
 

@@ -67,16 +67,26 @@ pub fn make(
     caller: u32,
     handoff: &[u8],
     verdict: bool,
+    fresh: &[u8],
     runtime: &[u8],
     manifest: &[u8],
     secret: &[u8],
     buffer: &mut [u8],
 ) -> Made
-    ensures { λ r. ⌜ stepOf r (now (image .exit)) (now (buffer .exit)) ≡ act (machineOf (now (image .entry)) hand) (actOf op (requestOf code (now (bytes .entry)) caller (now (handoff .entry)) verdict) (bootOf (now (runtime .entry)) (now (manifest .entry)) (now (secret .entry))) (now (buffer .entry))) ⌝ }
-    ensures { λ r. ⌜ now (buffer .exit) ≡ bufferAfter (act (machineOf (now (image .entry)) hand) (actOf op (requestOf code (now (bytes .entry)) caller (now (handoff .entry)) verdict) (bootOf (now (runtime .entry)) (now (manifest .entry)) (now (secret .entry))) (now (buffer .entry))) .result) (now (buffer .entry)) ⌝ }
+    ensures { λ r. ⌜ stepOf r (now (image .exit)) (now (buffer .exit)) ≡ act (machineOf (now (image .entry)) hand) (actOf op (requestOf code (now (bytes .entry)) caller (now (handoff .entry)) verdict (now (fresh .entry))) (bootOf (now (runtime .entry)) (now (manifest .entry)) (now (secret .entry))) (now (buffer .entry))) ⌝ }
+    ensures { λ r. ⌜ now (buffer .exit) ≡ bufferAfter (act (machineOf (now (image .entry)) hand) (actOf op (requestOf code (now (bytes .entry)) caller (now (handoff .entry)) verdict (now (fresh .entry))) (bootOf (now (runtime .entry)) (now (manifest .entry)) (now (secret .entry))) (now (buffer .entry))) .result) (now (buffer .entry)) ⌝ }
 {
     match op {
-        REQUEST => request_call(&image[..], hand, code, bytes, caller, handoff, verdict),
+        REQUEST => request_call(
+            &image[..],
+            hand,
+            code,
+            bytes,
+            caller,
+            handoff,
+            verdict,
+            fresh,
+        ),
         UPDATE_BOOT => update_boot_call(&image[..], hand, runtime, manifest, secret, verdict),
         STORE => store_call(image, hand),
         COLD_BOOT => cold_boot_call(&image[..], hand, runtime, manifest, secret),

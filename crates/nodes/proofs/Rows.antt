@@ -1,19 +1,18 @@
 -- A node's words, field by field: one law to read a word of a field, one to replace a field, each for every field. Assumes nothing.
 use mathlib.Core.Path.{_≡_, refl, sym, ap, _∙_}
 use Prim.Native.Nat.{ℕ, _+_, _-_, _*_, _^_, _≤_, _<_}
-use native.Mathlib.Decide.{decLt}
 use native.Mathlib.Omega.{arith}
 use mathlib.Core.List.{List, []}
 use mathlib.Core.Option.{Option, none, some}
-use lib.ListN.{length, getD, set, take, length-append}
+use lib.ListN.{length, getD, set, take, replicate, length-append}
 use lib.Seq.{sets}
 use Rattle.layout.specs.Sizes.{nodeWords, registerWords, tagAt, handleAt, handleWords, flagsAt, currentAt, cumulativeAt, typeAt, localityAt, svnAt}
 use Rattle.layout.specs.Words.{tab, zeros, wordsAt, words48, flat}
-use Rattle.layout.proofs.Tab.{length-zeros, getD-zeros, tab-full, tab-is}
+use Rattle.layout.proofs.Tab.{length-zeros, tab-full, tab-is}
 use Rattle.layout.proofs.Packing.{length-words}
 use Rattle.layout.proofs.Blocks.{offset, block-at, block-sets}
 use Rattle.tree.specs.Tree.{retiredWords}
-use Rattle.nodes.specs.Record.{Node, defaultHandle, retiredHandle, handleRow, fieldsFrom, fieldsOf, nodeRow, placeRow, measurementsRow, withHandle, withCurrent, withCumulative}
+use Rattle.nodes.specs.Record.{Node, defaultHandle, retiredHandle, handleRow, fieldsFrom, fieldsOf, nodeRow, placeRow, measurementsRow, handlePlaced, withHandle, withCurrent, withCumulative}
 
 pub length-handle : (h : List ℕ) → length (handleRow h) ≡ handleWords
 length-handle h = length-words handleWords h 0
@@ -96,7 +95,7 @@ unfolding nodeRow
 length-row none = length-zeros nodeWords
 length-row (some n) = simp (length-append, length-handle, length-words)
 
--- ---- a row from its words, with tag 0 and the default handle, as the code makes it
+-- ---- a row from its words, with tag 0, as the code makes it
 
 pub default-row : handleRow defaultHandle ≡ zeros handleWords
 unfolding wordsAt tab zeros
@@ -106,36 +105,42 @@ pub retired-row : handleRow retiredHandle ≡ retiredWords
 unfolding wordsAt tab
 retired-row = refl
 
-module _ (first flags type locality svn : ℕ) (current cumulative : List ℕ) (hc : length current ≡ registerWords) (hm : length cumulative ≡ registerWords) where
-  abbrev raw : List (List ℕ)
-  raw = fieldsFrom first 0 (zeros handleWords) flags current cumulative type locality svn
+-- 48 zero bytes
+pub zero48 : words48 (replicate 48 0) ≡ zeros registerWords
+unfolding wordsAt tab zeros
+zero48 = refl
 
-  pub raw-zero : (j : ℕ) → j < flagsAt → 0 < j → getD (flat raw) j 0 ≡ 0
-  raw-zero j h l = elim (decLt j handleAt) [
-    | yes b ↦ (let e : j ≡ tagAt = omega arith in block-at raw 1 0 j e (omega arith))
-    | no b ↦ block-at raw 2 (j - handleAt) j (omega arith) (omega (arith, length-zeros handleWords)) ∙ getD-zeros handleWords (j - handleAt) (omega arith)
-  ]
+module _ (first : ℕ) (handle : List ℕ) (flags type locality svn : ℕ) (current cumulative : List ℕ) (hh : length handle ≡ handleWords)
+    (hc : length current ≡ registerWords) (hm : length cumulative ≡ registerWords) where
+  abbrev raw : List (List ℕ)
+  raw = fieldsFrom first 0 handle flags current cumulative type locality svn
+
+  pub raw-tag : (j : ℕ) → j ≡ tagAt → getD (flat raw) j 0 ≡ 0
+  raw-tag j e = block-at raw 1 0 j e (omega arith)
+
+  pub raw-handle : (j : ℕ) → handleAt ≤ j → j < flagsAt → getD (flat raw) j 0 ≡ getD handle (j - handleAt) 0
+  raw-handle j l h = block-at raw 2 (j - handleAt) j (omega arith) (omega arith)
 
   pub raw-flags : (j : ℕ) → j ≡ flagsAt → getD (flat raw) j 0 ≡ flags
-  raw-flags j e = block-at raw 3 0 j (omega (arith, length-zeros handleWords)) (omega arith)
+  raw-flags j e = block-at raw 3 0 j (omega arith) (omega arith)
 
   pub raw-current : (j : ℕ) → currentAt ≤ j → j < cumulativeAt → getD (flat raw) j 0 ≡ getD current (j - currentAt) 0
-  raw-current j l h = block-at raw 4 (j - currentAt) j (omega (arith, length-zeros handleWords)) (omega arith)
+  raw-current j l h = block-at raw 4 (j - currentAt) j (omega arith) (omega arith)
 
   pub raw-cumulative : (j : ℕ) → cumulativeAt ≤ j → j < typeAt → getD (flat raw) j 0 ≡ getD cumulative (j - cumulativeAt) 0
-  raw-cumulative j l h = block-at raw 5 (j - cumulativeAt) j (omega (arith, length-zeros handleWords)) (omega arith)
+  raw-cumulative j l h = block-at raw 5 (j - cumulativeAt) j (omega arith) (omega arith)
 
   pub raw-type : (j : ℕ) → j ≡ typeAt → getD (flat raw) j 0 ≡ type
-  raw-type j e = block-at raw 6 0 j (omega (arith, length-zeros handleWords)) (omega arith)
+  raw-type j e = block-at raw 6 0 j (omega arith) (omega arith)
 
   pub raw-locality : (j : ℕ) → j ≡ localityAt → getD (flat raw) j 0 ≡ locality
-  raw-locality j e = block-at raw 7 0 j (omega (arith, length-zeros handleWords)) (omega arith)
+  raw-locality j e = block-at raw 7 0 j (omega arith) (omega arith)
 
   pub raw-svn : (j : ℕ) → j ≡ svnAt → getD (flat raw) j 0 ≡ svn
-  raw-svn j e = block-at raw 8 0 j (omega (arith, length-zeros handleWords)) (omega arith)
+  raw-svn j e = block-at raw 8 0 j (omega arith) (omega arith)
 
   raw-length : length (flat raw) ≡ nodeWords
-  raw-length = simp (length-append, length-zeros) (omega arith)
+  raw-length = simp length-append (omega arith)
 
   -- a list that was filled with the row's words is the row
   pub raw-filled : (l : List ℕ) → length l ≡ nodeWords → take nodeWords l ≡ tab nodeWords (λ i. getD (flat raw) i 0) → l ≡ flat raw
@@ -143,7 +148,7 @@ module _ (first flags type locality svn : ℕ) (current cumulative : List ℕ) (
       let f : ℕ → ℕ = λ i. getD (flat raw) i 0 in
       tab-full f l nodeWords h e ∙ tab-is f (flat raw) nodeWords raw-length (λ i b. refl)
 
--- ---- a root's new measurements, in the places that they have in a node
+-- ---- a node's new measurements and a new handle, in the places that they have in a node
 
 from : (at j : ℕ) → at + j - at ≡ j
 from at j = omega arith
@@ -151,10 +156,28 @@ from at j = omega arith
 module _ (current cumulative : List ℕ) where
   pub measurements-current : (j : ℕ) → j < registerWords → getD (measurementsRow current cumulative) (currentAt + j) 0 ≡ getD (words48 current) j 0
   measurements-current j h =
-      raw-current 0 0 0 0 0 (words48 current) (words48 cumulative) (length48 current) (length48 cumulative) (currentAt + j) (omega arith) (omega arith)
+      raw-current 0 (zeros handleWords) 0 0 0 0 (words48 current) (words48 cumulative) (length-zeros handleWords) (length48 current) (length48 cumulative)
+      (currentAt + j) (omega arith) (omega arith)
       ∙ ap (λ (i : ℕ). getD (words48 current) i 0) (from currentAt j)
 
   pub measurements-cumulative : (j : ℕ) → j < registerWords → getD (measurementsRow current cumulative) (cumulativeAt + j) 0 ≡ getD (words48 cumulative) j 0
   measurements-cumulative j h =
-      raw-cumulative 0 0 0 0 0 (words48 current) (words48 cumulative) (length48 current) (length48 cumulative) (cumulativeAt + j) (omega arith) (omega arith)
+      raw-cumulative 0 (zeros handleWords) 0 0 0 0 (words48 current) (words48 cumulative) (length-zeros handleWords) (length48 current) (length48 cumulative)
+      (cumulativeAt + j) (omega arith) (omega arith)
       ∙ ap (λ (i : ℕ). getD (words48 cumulative) i 0) (from cumulativeAt j)
+
+pub placed-handle : (handle : List ℕ) (j : ℕ) → j < handleWords → getD (handlePlaced handle) (handleAt + j) 0 ≡ getD (handleRow handle) j 0
+placed-handle handle j h =
+    raw-handle 0 (handleRow handle) 0 0 0 0 (zeros registerWords) (zeros registerWords) (length-handle handle) (length-zeros registerWords)
+    (length-zeros registerWords) (handleAt + j) (omega arith) (omega arith)
+    ∙ ap (λ (i : ℕ). getD (handleRow handle) i 0) (from handleAt j)
+
+-- both are as long as a node
+pub length-measurements : (current cumulative : List ℕ) → length (measurementsRow current cumulative) ≡ nodeWords
+length-measurements current cumulative =
+    raw-length 0 (zeros handleWords) 0 0 0 0 (words48 current) (words48 cumulative) (length-zeros handleWords) (length48 current) (length48 cumulative)
+
+pub length-placed : (handle : List ℕ) → length (handlePlaced handle) ≡ nodeWords
+length-placed handle =
+    raw-length 0 (handleRow handle) 0 0 0 0 (zeros registerWords) (zeros registerWords) (length-handle handle) (length-zeros registerWords)
+    (length-zeros registerWords)

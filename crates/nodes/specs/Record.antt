@@ -4,16 +4,16 @@ use mathlib.Core.Bool.{true, false}
 use mathlib.Core.List.{List, [], _∷_}
 use mathlib.Core.Option.{Option, none, some}
 use lib.ListN.{getD, replicate}
-use Rattle.layout.specs.Sizes.{nodeWords, handleWords}
+use Rattle.layout.specs.Sizes.{nodeWords, registerWords, handleWords, handleBytes}
 use Rattle.layout.specs.Words.{words48, wordsAt, zeros, flat}
 use Rattle.tree.specs.Tree.{Place, freePlace, Tree}
 
 -- the two handles: zero bytes, "the default context"; bytes 0xFF, retired
 abbrev pub defaultHandle : List ℕ
-defaultHandle = replicate (4 * handleWords) 0
+defaultHandle = replicate handleBytes 0
 
 abbrev pub retiredHandle : List ℕ
-retiredHandle = replicate (4 * handleWords) 0xFF
+retiredHandle = replicate handleBytes 0xFF
 
 -- the words of a handle
 abbrev pub handleRow : List ℕ → List ℕ
@@ -49,14 +49,18 @@ abbrev pub placeRow : Option Node → List ℕ
 placeRow none = zeros nodeWords
 placeRow (some n) = nodeRow n
 
--- a node that a boot or a stash makes: tag 0, default handle
-abbrev pub newNode : ℕ → ℕ → List ℕ → List ℕ → ℕ → ℕ → ℕ → Node
-newNode parent flags current cumulative type locality svn =
-    record { parent = parent; tag = 0; handle = defaultHandle; flags = flags; current = current; cumulative = cumulative; type = type; locality = locality; svn = svn }
+-- a node that a boot, a stash or a derive makes: tag 0
+abbrev pub newNode : ℕ → List ℕ → ℕ → List ℕ → List ℕ → ℕ → ℕ → ℕ → Node
+newNode parent handle flags current cumulative type locality svn =
+    record { parent = parent; tag = 0; handle = handle; flags = flags; current = current; cumulative = cumulative; type = type; locality = locality; svn = svn }
 
--- a root's new measurements in the places that they have in a node; the other words are zero
+-- a node's new measurements in the places that they have in a node; the other words are zero
 abbrev pub measurementsRow : List ℕ → List ℕ → List ℕ
 measurementsRow current cumulative = flat (fieldsFrom 0 0 (zeros handleWords) 0 (words48 current) (words48 cumulative) 0 0 0)
+
+-- and a new handle
+abbrev pub handlePlaced : List ℕ → List ℕ
+handlePlaced handle = flat (fieldsFrom 0 0 (handleRow handle) 0 (zeros registerWords) (zeros registerWords) 0 0 0)
 
 -- ---- a node with one field replaced
 

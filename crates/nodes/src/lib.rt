@@ -1,23 +1,41 @@
-// A node's words as a boot or a stash makes them: tag 0, default handle.
+// A node's words as a boot, a stash or a derive makes them, with tag 0; and the words of a handle.
 ghost use mathlib.Core.Path.{_≡_};
 ghost use Prim.Native.Nat.{_<_};
 ghost use lib.ListN.{getD};
-ghost use Rattle.layout.specs.Sizes.{nodeWords, handleWords};
-ghost use Rattle.layout.specs.Words.{zeros, words48, flat};
-ghost use Rattle.nodes.specs.Record.{nodeRow, newNode, fieldsFrom, measurementsRow};
+ghost use Rattle.layout.specs.Sizes.{nodeWords};
+ghost use Rattle.layout.specs.Words.{words48, flat};
+ghost use Rattle.nodes.specs.Record.{handleRow, nodeRow, newNode, fieldsFrom, measurementsRow, handlePlaced};
 use layout::CUMULATIVE_AT;
 use layout::CURRENT_AT;
 use layout::FLAGS_AT;
+use layout::HANDLE_AT;
+use layout::HANDLE_BYTES;
+use layout::HANDLE_WORDS;
 use layout::LOCALITY_AT;
 use layout::NODE_WORDS;
 use layout::REGISTER_WORDS;
 use layout::SVN_AT;
 use layout::TYPE_AT;
 use slices::little_endian::pack;
+use slices::little_endian::read32;
 
-// Word j of a node's words, with tag 0 and the default handle.
+// The words of a handle.
+pub fn handle_words(handle: [u8; HANDLE_BYTES]) -> [u32; HANDLE_WORDS]
+    ensures { λ r. ⌜ r ≡ handleRow handle ⌝ }
+{
+    let mut out = [0u32; HANDLE_WORDS];
+    let mut k = 0;
+    while k < HANDLE_WORDS {
+        out[k] = read32(&handle, 4 * k);
+        k += 1;
+    }
+    out
+}
+
+// Word j of a node's words, with tag 0.
 fn row_word(
     first: u32,
+    handle: [u32; HANDLE_WORDS],
     flags: u32,
     current: [u32; REGISTER_WORDS],
     cumulative: [u32; REGISTER_WORDS],
@@ -27,13 +45,16 @@ fn row_word(
     j: usize,
 ) -> u32
     requires { ⌜ j < nodeWords ⌝ }
-    ensures { λ r. ⌜ r ≡ getD (flat (fieldsFrom first 0 (zeros handleWords) flags current cumulative kind locality svn)) j 0 ⌝ }
+    ensures { λ r. ⌜ r ≡ getD (flat (fieldsFrom first 0 handle flags current cumulative kind locality svn)) j 0 ⌝ }
 {
     if j < 1 {
         return first;
     }
-    if j < FLAGS_AT {
+    if j < HANDLE_AT {
         return 0;
+    }
+    if j < FLAGS_AT {
+        return handle[j - HANDLE_AT];
     }
     if j < CURRENT_AT {
         return flags;
@@ -53,9 +74,10 @@ fn row_word(
     svn
 }
 
-// A node's words, with tag 0 and the default handle.
+// A node's words, with tag 0.
 fn row_of(
     first: u32,
+    handle: [u32; HANDLE_WORDS],
     flags: u32,
     current: [u8; 48],
     cumulative: [u8; 48],
@@ -63,22 +85,23 @@ fn row_of(
     locality: u32,
     svn: u32,
 ) -> [u32; NODE_WORDS]
-    ensures { λ r. ⌜ r ≡ flat (fieldsFrom first 0 (zeros handleWords) flags (words48 current) (words48 cumulative) kind locality svn) ⌝ }
+    ensures { λ r. ⌜ r ≡ flat (fieldsFrom first 0 handle flags (words48 current) (words48 cumulative) kind locality svn) ⌝ }
 {
     let now = pack(&current, 0);
     let all = pack(&cumulative, 0);
     let mut row = [0u32; NODE_WORDS];
     let mut j = 0;
     while j < NODE_WORDS {
-        row[j] = row_word(first, flags, now, all, kind, locality, svn, j);
+        row[j] = row_word(first, handle, flags, now, all, kind, locality, svn, j);
         j += 1;
     }
     row
 }
 
-// The words of a used node with tag 0 and the default handle.
+// The words of a used node with tag 0.
 pub fn node_row(
     parent: u16,
+    handle: [u8; HANDLE_BYTES],
     flags: u32,
     current: [u8; 48],
     cumulative: [u8; 48],
@@ -86,10 +109,11 @@ pub fn node_row(
     locality: u32,
     svn: u32,
 ) -> [u32; NODE_WORDS]
-    ensures { λ r. ⌜ r ≡ nodeRow (newNode parent flags current cumulative kind locality svn) ⌝ }
+    ensures { λ r. ⌜ r ≡ nodeRow (newNode parent handle flags current cumulative kind locality svn) ⌝ }
 {
     row_of(
         1 + 65536 * (parent as u32),
+        handle_words(handle),
         flags,
         current,
         cumulative,
@@ -99,9 +123,16 @@ pub fn node_row(
     )
 }
 
-// The words of a root's new measurements, in the places that they have in a node.
+// The words of a node's new measurements, in the places that they have in a node.
 pub fn measurements_row(current: [u8; 48], cumulative: [u8; 48]) -> [u32; NODE_WORDS]
     ensures { λ r. ⌜ r ≡ measurementsRow current cumulative ⌝ }
 {
-    row_of(0, 0, current, cumulative, 0, 0, 0)
+    row_of(0, [0u32; HANDLE_WORDS], 0, current, cumulative, 0, 0, 0)
+}
+
+// The words of a new handle, in the places that they have in a node.
+pub fn handle_row(handle: [u8; HANDLE_BYTES]) -> [u32; NODE_WORDS]
+    ensures { λ r. ⌜ r ≡ handlePlaced handle ⌝ }
+{
+    row_of(0, handle_words(handle), 0, [0u8; 48], [0u8; 48], 0, 0, 0)
 }

@@ -1,7 +1,7 @@
 -- The rules that decide a request or a boot, as flat lists read top down (document 01, "Mailbox", "Numbers handed back"). They see a view of the unit that is
 -- taken from an image or from the history's ledger. Assumes nothing.
-use Prim.Native.Nat.{ℕ}
-use mathlib.Core.Bool.{Bool, true, false, cond, not, _&&_}
+use Prim.Native.Nat.{ℕ, _+_}
+use mathlib.Core.Bool.{Bool, true, false, cond, not, _&&_, _||_}
 use mathlib.Core.List.{List, [], _∷_, _++_}
 use lib.Dec.{eqb, leb}
 use lib.ListN.{length, getD, take, drop}
@@ -10,8 +10,10 @@ use Rattle.layout.specs.Words.{le16, le32, bytes4}
 use Rattle.layout.specs.Below.{allBelow}
 use Rattle.layout.specs.Refusals as number
 use Rattle.message.specs.Checksum.{checksumOf}
-use Rattle.tree.specs.Tree.{wellFormed, lowestFree}
-use Rattle.opening.specs.Tasks.{Request, BootInputs, Measurement, RegisterExtension, Task, noStores, keptBoot, disableCommand, disablingBoot, stash, update, extension, Ruling, refused, accepted, View}
+use Rattle.tree.specs.Tree.{Tree, defaultWords, retiredWords, sameHandle, isRoot, wellFormed, nodeWith, lowestFree, childless}
+use Rattle.nodes.specs.Record.{handleRow}
+use Rattle.opening.specs.Orders.{traitsOf, commandIn, freshFor, namedIn, unfit}
+use Rattle.opening.specs.Tasks.{Request, BootInputs, Measurement, RegisterExtension, Order, Task, noStores, keptBoot, disableCommand, disablingBoot, stash, update, extension, invoke, Ruling, refused, accepted, View}
 
 -- ---- lists of rules: "the first that applies wins"
 
@@ -56,6 +58,12 @@ measurementIn r = record { type = le32 (r .bytes) 4; digest = take 48 (drop 8 (r
 abbrev pub extensionIn : Request → RegisterExtension
 extensionIn r = record { register = le32 (r .bytes) 4; digest = take 48 (drop 8 (r .bytes)) }
 
+-- "checksum, data size, data" (document 02, §5), and the caller
+abbrev pub orderIn : Request → Order
+orderIn r =
+    let c = commandIn (drop 8 (r .bytes)) in
+    record { command = c; fresh = freshFor c (r .fresh); caller = r .caller }
+
 -- ---- the table of commands
 
 pub record Command : Type 0 where
@@ -84,6 +92,10 @@ verifyCode = 0x53494756
 abbrev pub extendCode : ℕ
 extendCode = 0x50435245
 
+-- INVOKE_DPE_COMMAND (000; document 02, §5)
+abbrev pub invokeCode : ℕ
+invokeCode = 0x44504543
+
 -- "Request bytes": a stash's, of a request that is its checksum alone (disable, identity key), a signature's and an extension's
 abbrev pub stashLength : ℕ
 stashLength = 60
@@ -97,11 +109,17 @@ verifyLength = 196
 abbrev pub extendLength : ℕ
 extendLength = 56
 
--- stash: declined while off, refused where the nodes are not well formed, declined where no node is free, in that order
+-- "data of at most 1,024 bytes"
+abbrev pub dataMax : ℕ
+dataMax = 1024
+
+-- stash: declined while off, refused where the nodes are not well formed, declined where no node has the default handle (document 02, §5), declined
+-- where no node is free, in that order
 abbrev pub stashRules : View → Measurement → List Rule
 stashRules v m =
     declines number.dpeOff (not (v .on))
     ∷ refuses number.notWellFormed (not (wellFormed nodeCount (v .nodes)))
+    ∷ declines number.dpeNoHolder (leb nodeCount (nodeWith nodeCount (v .nodes) defaultWords))
     ∷ declines number.dpeFull (leb nodeCount (lowestFree nodeCount (v .nodes)))
     ∷ []
 
@@ -154,6 +172,36 @@ extendRegister =
       answer = λ r. [];
     }
 
+-- a tree command's own declines, "the first dpe result that applies" (document 02, §5)
+abbrev pub orderRules : Tree → Order → List Rule
+orderRules t o =
+    let c = traitsOf (o .command) in
+    let i = namedIn t (o .command) in
+    declines number.dpeMalformed (c .isMalformed)
+    ∷ declines number.dpeNoHandle (sameHandle (handleRow (c .handle)) retiredWords || leb nodeCount i)
+    ∷ declines number.dpeCaller (not (eqb (t i .locality) (o .caller)))
+    ∷ declines number.dpeFresh (c .takesFresh && unfit t (o .fresh))
+    ∷ declines number.dpeFull (c .addsNode && leb nodeCount (lowestFree nodeCount t))
+    ∷ declines number.dpeRoot (c .sparesRoot && isRoot (t i))
+    ∷ declines number.dpeChildren (c .frees && not (childless nodeCount t i))
+    ∷ []
+
+-- before them, "2 off (then refusal 11)"
+abbrev pub invokeRules : View → Order → List Rule
+invokeRules v o =
+    declines number.dpeOff (not (v .on)) ∷ refuses number.notWellFormed (not (wellFormed nodeCount (v .nodes))) ∷ orderRules (v .nodes) o
+
+-- "exactly 8 bytes plus the data size, else number 4, as is a size over 1,024"
+abbrev pub invokeDpe : Command
+invokeDpe =
+    record {
+      known = true;
+      lengthOk = λ b. leb 8 (length b) && (leb (le32 b 4) dataMax && eqb (length b) (8 + le32 b 4));
+      rules = λ v r. invokeRules v (orderIn r);
+      task = λ r. invoke (orderIn r);
+      answer = λ r. bytes4 number.dpeAccepted;
+    }
+
 abbrev pub unknownCommand : Command
 unknownCommand = record { known = false; lengthOk = λ b. false; rules = λ v r. []; task = λ r. noStores; answer = λ r. [] }
 
@@ -163,7 +211,8 @@ commandOf code =
     (cond (eqb code disableCode) disableAttestation
     (cond (eqb code identityCode) identityKey
     (cond (eqb code verifyCode) verifySignature
-    (cond (eqb code extendCode) extendRegister unknownCommand))))
+    (cond (eqb code extendCode) extendRegister
+    (cond (eqb code invokeCode) invokeDpe unknownCommand)))))
 
 -- ---- the entries' orders
 

@@ -3,17 +3,21 @@ use Prim.Native.Nat.{ℕ}
 use mathlib.Core.Bool.{Bool}
 use mathlib.Core.List.{List}
 use Rattle.tree.specs.Tree.{Tree}
+use Rattle.opening.specs.Orders.{NodeCommand}
 
--- a request: command code, bytes, the caller's number (PAUSER), the handoff table, ROM's ECDSA verdict
+-- a request: command code, bytes, the caller's number (PAUSER), the handoff table, ROM's ECDSA verdict, and the fresh handle that the host lends
+-- (document 02, §5)
 pub record Request : Type 0 where
   pub code : ℕ
   pub bytes : List ℕ
   pub caller : ℕ
   pub handoff : List ℕ
   pub verdict : Bool
+  pub fresh : List ℕ
 
-abbrev pub requestOf : ℕ → List ℕ → ℕ → List ℕ → Bool → Request
-requestOf code bytes caller handoff verdict = record { code = code; bytes = bytes; caller = caller; handoff = handoff; verdict = verdict }
+abbrev pub requestOf : ℕ → List ℕ → ℕ → List ℕ → Bool → List ℕ → Request
+requestOf code bytes caller handoff verdict fresh =
+    record { code = code; bytes = bytes; caller = caller; handoff = handoff; verdict = verdict; fresh = fresh }
 
 -- a boot's inputs: "runtime digest, secret", and between them the manifest digest (document 02, §2)
 pub record BootInputs : Type 0 where
@@ -36,6 +40,12 @@ pub record RegisterExtension : Type 0 where
   pub register : ℕ
   pub digest : List ℕ
 
+-- what a tree command (document 02, §5) is given: its data, the fresh handle if it takes one, the caller
+pub record Order : Type 0 where
+  pub command : NodeCommand
+  pub fresh : List ℕ
+  pub caller : ℕ
+
 -- document 01's "work": a piece of work and all its inputs, as they were given
 pub data Task : Type 0 where
   -- a request with nothing to store, and a boot that keeps all
@@ -45,6 +55,7 @@ pub data Task : Type 0 where
   stash : Measurement → Task
   update coldBoot : BootInputs → Task
   extension : RegisterExtension → Task
+  invoke : Order → Task
 
 -- what an opening decides: a refusal's number, or a task and the bytes of its answer
 pub data Ruling : Type 0 where

@@ -17,7 +17,7 @@ pub fn word(image: &[u32], at: usize) -> u32
 }
 
 // The word k places after an index. The sum is taken only where it stays below the length.
-fn word_after(image: &[u32], at: usize, k: usize) -> u32
+pub fn word_after(image: &[u32], at: usize, k: usize) -> u32
     ensures { λ r. ⌜ r ≡ getD (now (image .entry)) (at + k) 0 ⌝ }
 {
     if at < image.len() {

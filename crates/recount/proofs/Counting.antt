@@ -17,24 +17,27 @@ use Rattle.table.specs.Table.{numberOf}
 use Rattle.work.specs.Entries.{wellShaped, leftOf}
 use Rattle.making.specs.Made.{workWith}
 use Rattle.making.specs.Run.{allStores}
-use Rattle.journal.specs.Entries.{Entry, coldBoot, update, disabling, stash, extension, EntryOk}
+use Rattle.journal.specs.Entries.{Entry, coldBoot, update, disabling, stash, extension, derive, extend, rotate, destroy, EntryOk}
+use Rattle.opening.specs.Orders.{NodeCommand}
+use Rattle.opening.specs.Orders as command
 use Rattle.opening.specs.Tasks.{Request, BootInputs, Task, noStores, Ruling, accepted, View}
 use Rattle.opening.specs.Tasks as task
-use Rattle.opening.specs.Rules.{Rule, inputsOk, answerOf, commandOf, stashRules, extendRules, requestRules, updateTask}
+use Rattle.opening.specs.Rules.{Rule, inputsOk, answerOf, commandOf, stashRules, extendRules, invokeRules, requestRules, updateTask}
 use Rattle.opening.specs.Works.{workAt}
 use Rattle.opening.specs.Openings.{openedOf, bootedOf, openColdBoot, coldBooted}
 use Rattle.opening.specs.declared.Opened.{Opened}
 use Rattle.opening.specs.declared.Booted.{Booted}
 use Rattle.opening.proofs.Decided.{NoneApply, ruled-decided}
-use Rattle.history.specs.Ledger.{blank, stateOf, any, disables, isDisableCommand, isOff, viewOf}
+use Rattle.history.specs.Ledger.{blank, kindAt, stateOf, any, disables, isDisableCommand, isOff, viewOf}
 use Rattle.history.proofs.Good.{Good, good-cold}
 use Rattle.history.proofs.Ground.{imageAfter, Ground, sound, broken, ground-length, storesAt, FitsRuling, ruling, fits-rule, fits-boot}
 use Rattle.history.proofs.Sim.{opened-left}
 use Rattle.history.proofs.Demand.{cold-image}
 use Rattle.replaying.specs.Replay.{Replay, fresh, taskOf, bootFrom, measurementFrom, extensionFrom, viewAt, passes, countable, offAfter, counted}
-use Rattle.replaying.specs.Asked.{stashAsked, extensionAsked, disableAsked}
+use Rattle.replaying.specs.Asked.{stashAsked, extensionAsked, disableAsked, invokeAsked, deriveData, extendData, rotateData, destroyData}
 use Rattle.replaying.proofs.Honest.{passed}
-use Rattle.replaying.proofs.Asked.{stash-accepted, extension-accepted, disable-accepted, measurement-in, extension-in}
+use Rattle.replaying.proofs.Data.{askedFor, OrderAsked, derive-asked, extend-asked, rotate-asked, destroy-asked}
+use Rattle.replaying.proofs.Asked.{stash-accepted, extension-accepted, disable-accepted, invoke-accepted, measurement-in, extension-in, order-in}
 use Rattle.replaying.proofs.Converse.{replayOf, same-view, inputs-fine, counted-cold, counted-more}
 use Rattle.recount.specs.OnImage.{isReady, requestMade, isUpdated, updateMade, coldMade, madeOn}
 use Rattle.recount.proofs.Shown.{shown, Reach, unbooted, booted, request-opens, update-opens, all-stored}
@@ -100,7 +103,7 @@ module _ {l : List ℕ} {h : List Task} {t u : Bool} (here : Ground l h t u) whe
   update-ruled x i = ap (bootedMade l) (update-opens here x i)
 
   update-made : (x : BootInputs) → inputsOk x ≡ true → t ≡ false → isOff h t ≡ false → Grown h (task.update x) (updateMade l x)
-  unfolding numberOf
+  unfolding numberOf kindAt
   update-made x i q e =
       let f = subst (λ (b : Bool). FitsRuling h t u true (accepted (updateTask (not b) true x) [])) e (fits-boot h t u true x i) in
       let w = all-stored here (task.update x) [] (f .0) (f .1) (f .3) q (omega arith) in
@@ -142,6 +145,10 @@ fresh-made (update r m) ok c = absurd (false≢true c)
 fresh-made disabling ok c = absurd (false≢true c)
 fresh-made (stash t d s k) ok c = absurd (false≢true c)
 fresh-made (extension r d) ok c = absurd (false≢true c)
+fresh-made (derive h r t d f k) ok c = absurd (false≢true c)
+fresh-made (extend h d k) ok c = absurd (false≢true c)
+fresh-made (rotate h f k) ok c = absurd (false≢true c)
+fresh-made (destroy h k) ok c = absurd (false≢true c)
 
 fresh-none : (e : Entry) → EntryOk e → countable fresh e ≡ false → madeOn (shown fresh) e ≡ none
 unfolding madeOn viewOf
@@ -150,6 +157,10 @@ fresh-none (update r m) ok c = update-none none-yet (bootFrom r m) (inputs-fine 
 fresh-none disabling ok c = request-none none-yet disableAsked (λ n. true≢false (n .0))
 fresh-none (stash t d s k) ok c = request-none none-yet (stashAsked t d s k) (λ n. true≢false (n .0))
 fresh-none (extension r d) ok c = request-none none-yet (extensionAsked r d) (λ n. true≢false (n .0))
+fresh-none (derive h r t d f k) ok c = request-none none-yet (invokeAsked (deriveData h r t d) f k) (λ n. true≢false (n .0))
+fresh-none (extend h d k) ok c = request-none none-yet (invokeAsked (extendData h d) [] k) (λ n. true≢false (n .0))
+fresh-none (rotate h f k) ok c = request-none none-yet (invokeAsked (rotateData h) f k) (λ n. true≢false (n .0))
+fresh-none (destroy h k) ok c = request-none none-yet (invokeAsked (destroyData h) [] k) (λ n. true≢false (n .0))
 
 -- behind a history
 module _ (h : List Task) (g : Good (stateOf h .chain)) (o : any disables h ≡ any isDisableCommand h) where
@@ -170,8 +181,29 @@ module _ (h : List Task) (g : Good (stateOf h .chain)) (o : any disables h ≡ a
       → requestMade (imageAfter h) r ≡ none
   unserved r rs e c = request-none here r (λ n. true≢false (sym (passed rs (subst NoneApply e (n .1 .1 .1 .1))) ∙ c))
 
+  -- the request for a tree command's entry
+  module _ (e : Entry) (content new : List ℕ) (caller : ℕ) (c : NodeCommand) (w : OrderAsked e content new caller c) where
+    order-made : madeOn (imageAfter h) e ≡ requestMade (imageAfter h) (invokeAsked content new caller) → countable (replayOf h) e ≡ true
+        → Grown h (taskOf e) (madeOn (imageAfter h) e)
+    order-made q k =
+        let r = invokeAsked content new caller in
+        let a = answerOf (bytes4 number.dpeAccepted) in
+        let m = asked r (taskOf e) a
+        (invoke-accepted (viewAt (replayOf h)) refl content new caller c (w .reads) (w .short) (sym (w .counts (replayOf h)) ∙ k)
+        ∙ ap (λ (t : Task). accepted t a) (sym (w .task)))
+        (w .stores (stateOf h .chain)) in
+        (q ∙ m .0, m .1)
+
+    order-none : madeOn (imageAfter h) e ≡ requestMade (imageAfter h) (invokeAsked content new caller) → countable (replayOf h) e ≡ false
+        → madeOn (imageAfter h) e ≡ none
+    order-none q k =
+        q
+        ∙ unserved (invokeAsked content new caller) (invokeRules (viewAt (replayOf h)) (askedFor c new caller))
+        (λ i. invokeRules (same-view h i) (order-in (viewAt (replayOf h)) refl content new caller c (w .reads) (w .short) i))
+        (sym (w .counts (replayOf h)) ∙ k)
+
   booted-made : (e : Entry) → EntryOk e → countable (replayOf h) e ≡ true → Counted (replayOf h) e
-  unfolding madeOn numberOf
+  unfolding madeOn numberOf kindAt
   booted-made (coldBoot r m) ok c = cold-counted (replayOf h) (ground-length here) r m ok
   booted-made (update r m) ok c =
       goes-on (update r m) (sym (or-false (any disables h)))
@@ -186,6 +218,15 @@ module _ (h : List Task) (g : Good (stateOf h .chain)) (o : any disables h ≡ a
   booted-made (extension r d) ok c =
       goes-on (extension r d) (sym (or-false (any disables h)))
       (asked (extensionAsked r d) (taskOf (extension r d)) (answerOf []) (extension-accepted (viewAt (replayOf h)) refl r d (ok .0) (ok .1 .0) c) (omega arith))
+  booted-made (derive n r t d f k) ok c =
+      goes-on (derive n r t d f k) (sym (or-false (any disables h)))
+      (order-made (derive n r t d f k) (deriveData n r t d) f k (command.derive n r t d) (derive-asked n r t d f k ok) refl c)
+  booted-made (extend n d k) ok c =
+      goes-on (extend n d k) (sym (or-false (any disables h))) (order-made (extend n d k) (extendData n d) [] k (command.extend n d) (extend-asked n d k ok) refl c)
+  booted-made (rotate n f k) ok c =
+      goes-on (rotate n f k) (sym (or-false (any disables h))) (order-made (rotate n f k) (rotateData n) f k (command.rotate n) (rotate-asked n f k ok) refl c)
+  booted-made (destroy n k) ok c =
+      goes-on (destroy n k) (sym (or-false (any disables h))) (order-made (destroy n k) (destroyData n) [] k (command.destroy n) (destroy-asked n k ok) refl c)
 
   booted-none : (e : Entry) → EntryOk e → countable (replayOf h) e ≡ false → madeOn (imageAfter h) e ≡ none
   unfolding madeOn
@@ -200,6 +241,10 @@ module _ (h : List Task) (g : Good (stateOf h .chain)) (o : any disables h ≡ a
       unserved (extensionAsked r d) (extendRules (viewAt (replayOf h)) (extensionFrom r d))
       (λ i. extendRules (same-view h i) (extension-in (viewAt (replayOf h)) refl r d (ok .0) (ok .1 .0) i))
       c
+  booted-none (derive n r t d f k) ok c = order-none (derive n r t d f k) (deriveData n r t d) f k (command.derive n r t d) (derive-asked n r t d f k ok) refl c
+  booted-none (extend n d k) ok c = order-none (extend n d k) (extendData n d) [] k (command.extend n d) (extend-asked n d k ok) refl c
+  booted-none (rotate n f k) ok c = order-none (rotate n f k) (rotateData n) f k (command.rotate n) (rotate-asked n f k ok) refl c
+  booted-none (destroy n k) ok c = order-none (destroy n k) (destroyData n) [] k (command.destroy n) (destroy-asked n k ok) refl c
 
 -- ---- the image goes on as the replay does
 

@@ -54,3 +54,21 @@ stash-built code type svn digest v o p w q r l ev eo ep ew eq er =
         ep
         ∙ ap (λ (x : List ℕ). putAt x 8 digest) (eo ∙ ap (putAt (replicate 60 0) 4) ev)
         ∙ ap (λ (n : ℕ). replicate 4 0 ++ (bytes4 type ++ (digest ++ drop (8 + n) (putAt (replicate 60 0) 4 (bytes4 type))))) l
+
+-- size and data, and the checksum of what counts in front
+pub framed-built : (code : ℕ) (content v o p q : List ℕ) → v ≡ bytes4 (length content) → o ≡ putAt (replicate 112 0) 4 v → p ≡ putAt o 8 content
+    → q ≡ sealed code (drop 4 (take (8 + length content) p))
+    → take (8 + length content) (q ++ drop (8 + length content) p) ≡ sealed code (bytes4 (length content) ++ content)
+framed-built code content v o p q ev eo ep eq = take-at q _ (8 + length content) (ap length sealed-whole ∙ omega arith) ∙ sealed-whole
+  where
+    fields : List ℕ
+    fields = bytes4 (length content) ++ content
+
+    placed : p ≡ (replicate 4 0 ++ fields) ++ drop (8 + length content) o
+    placed = ep ∙ ap (λ (x : List ℕ). take 8 x ++ (content ++ drop (8 + length content) o)) (eo ∙ ap (putAt (replicate 112 0) 4) ev)
+
+    sealed-whole : q ≡ sealed code fields
+    sealed-whole =
+        eq
+        ∙ ap (λ (x : List ℕ). sealed code (drop 4 x))
+        (ap (take (8 + length content)) placed ∙ take-at (replicate 4 0 ++ fields) _ (8 + length content) (omega arith))

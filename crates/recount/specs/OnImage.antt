@@ -2,12 +2,12 @@
 -- Defined for every image. Assumes nothing.
 use Prim.Native.Nat.{ℕ}
 use mathlib.Core.Bool.{Bool, true, false, cond, _&&_}
-use mathlib.Core.List.{List}
+use mathlib.Core.List.{List, []}
 use mathlib.Core.Option.{Option, none, some}
 use lib.Dec.{ltb}
 use Rattle.work.specs.Entries.{leftOf}
 use Rattle.making.specs.Run.{allStores}
-use Rattle.journal.specs.Entries.{Entry, coldBoot, update, disabling, stash, extension}
+use Rattle.journal.specs.Entries.{Entry, coldBoot, update, disabling, stash, extension, derive, extend, rotate, destroy}
 use Rattle.opening.specs.Tasks.{Request, BootInputs}
 use Rattle.opening.specs.Openings.{openRequest, openColdBoot, openUpdateBoot}
 use Rattle.opening.specs.declared.Status.{Status}
@@ -17,7 +17,7 @@ use Rattle.opening.specs.declared.Outcome.the-variants.{Cold, Kept, Updated, Di
 use Rattle.opening.specs.declared.BootStatus.{BootStatus}
 use Rattle.opening.specs.declared.BootStatus.the-variants as bootStatus
 use Rattle.replaying.specs.Replay.{bootFrom}
-use Rattle.replaying.specs.Asked.{stashAsked, extensionAsked, disableAsked}
+use Rattle.replaying.specs.Asked.{stashAsked, extensionAsked, disableAsked, invokeAsked, deriveData, extendData, rotateData, destroyData}
 
 abbrev pub isReady : Status → Bool
 isReady status.Ready = true
@@ -60,6 +60,10 @@ madeOn image (update runtime manifest) = updateMade image (bootFrom runtime mani
 madeOn image disabling = requestMade image disableAsked
 madeOn image (stash type digest svn caller) = requestMade image (stashAsked type digest svn caller)
 madeOn image (extension register digest) = requestMade image (extensionAsked register digest)
+madeOn image (derive handle retain type digest fresh caller) = requestMade image (invokeAsked (deriveData handle retain type digest) fresh caller)
+madeOn image (extend handle digest caller) = requestMade image (invokeAsked (extendData handle digest) [] caller)
+madeOn image (rotate handle fresh caller) = requestMade image (invokeAsked (rotateData handle) fresh caller)
+madeOn image (destroy handle caller) = requestMade image (invokeAsked (destroyData handle) [] caller)
 
 -- whether it was made, and the image afterwards: where it was not, as it stood
 abbrev pub isMade : Option (List ℕ) → Bool

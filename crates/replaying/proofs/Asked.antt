@@ -8,18 +8,20 @@ use mathlib.Core.List.{List, [], _∷_, _++_, append-nil}
 use lib.Dec.{eqb, leb}
 use lib.ListN.{length, getD, take, drop, length-append}
 use lib.Seq.{take-append-seam, getD-append-add}
-use borrow.Author.Tests.{eq-eqb}
+use borrow.Author.Tests.{eq-eqb, le-leb}
 use Rattle.layout.specs.Words.{le32, bytes4, byteOf}
 use Rattle.layout.specs.Refusals as number
 use Rattle.layout.proofs.Packing.{joined}
 use Rattle.layout.proofs.Cases.{and-left, and-right}
 use Rattle.message.specs.Checksum.{sumOf, checksumOf}
-use Rattle.opening.specs.Tasks.{Request, Measurement, RegisterExtension, Ruling, accepted, disableCommand, stash, extension, View}
-use Rattle.opening.specs.Rules.{Rule, decide, wrongChecksum, stashCode, disableCode, extendCode, measurementIn, extensionIn, stashRules, extendRules, answerOf, commandOf, declined, served, requestRules}
+use Rattle.opening.specs.Orders.{NodeCommand, commandIn}
+use Rattle.opening.specs.Tasks.{Request, Measurement, RegisterExtension, Order, Ruling, accepted, disableCommand, stash, extension, invoke, View}
+use Rattle.opening.specs.Rules.{Rule, decide, wrongChecksum, stashCode, disableCode, extendCode, invokeCode, dataMax, measurementIn, extensionIn, orderIn, stashRules, extendRules, invokeRules, invokeDpe, answerOf, commandOf, declined, served, requestRules}
 use Rattle.opening.proofs.Decided.{NoneApply}
 use Rattle.history.proofs.Ground.{ruling}
 use Rattle.replaying.specs.Replay.{passes, measurementFrom, extensionFrom}
-use Rattle.replaying.specs.Asked.{sealed, stashAsked, extensionAsked, disableAsked}
+use Rattle.replaying.specs.Asked.{sealed, stashAsked, extensionAsked, disableAsked, invokeAsked}
+use Rattle.replaying.proofs.Data.{askedFor}
 
 -- ---- no rule applies
 
@@ -114,3 +116,38 @@ module _ (v : View) (done : v .done ≡ true) where
           ),
         )
         ∙ ap (λ (m : Measurement). accepted (stash m) (answerOf (bytes4 number.dpeAccepted))) measurement-in
+
+  -- a tree command
+  module _ (content fresh : List ℕ) (caller : ℕ) (c : NodeCommand) (reads : commandIn content ≡ c) (short : length content ≤ dataMax) where
+    pub order-in : orderIn (invokeAsked content fresh caller) ≡ askedFor c fresh caller
+    order-in = ap (λ (n : NodeCommand). askedFor n fresh caller) reads
+
+    size : le32 (sealed invokeCode (bytes4 (length content) ++ content)) 4 ≡ length content
+    size = joined (length content) (omega arith)
+
+    length-right : invokeDpe .lengthOk (sealed invokeCode (bytes4 (length content) ++ content)) ≡ true
+    length-right =
+        rw (
+          le-leb 8 (length (sealed invokeCode (bytes4 (length content) ++ content))) (omega arith),
+          size,
+          le-leb (length content) dataMax short,
+          eq-eqb (length (sealed invokeCode (bytes4 (length content) ++ content))) (8 + length content) (omega arith),
+        )
+
+    pub invoke-accepted : passes (invokeRules v (askedFor c fresh caller)) ≡ true
+        → ruling v (invokeAsked content fresh caller) ≡ accepted (invoke (askedFor c fresh caller)) (answerOf (bytes4 number.dpeAccepted))
+    invoke-accepted p =
+        rules-passed v (invokeAsked content fresh caller) (
+          ap not done,
+          (
+            refl,
+            (
+              ap not length-right,
+              (
+                sealed-right invokeCode (bytes4 (length content) ++ content),
+                subst (λ (o : Order). NoneApply (invokeRules v o)) (sym order-in) (all-passed (invokeRules v (askedFor c fresh caller)) p),
+              ),
+            ),
+          ),
+        )
+        ∙ ap (λ (o : Order). accepted (invoke o) (answerOf (bytes4 number.dpeAccepted))) order-in

@@ -1,6 +1,6 @@
 -- What replay accepts, a unit can have counted: the calls that make an entry's work, and the life of a journal. Assumes nothing.
 use mathlib.Core.Path.{_≡_, refl, sym, ap, _∙_, subst}
-use Prim.Native.Nat.{ℕ, zero, suc, _+_, _^_, _<_}
+use Prim.Native.Nat.{ℕ, zero, suc, _+_, _-_, _^_, _<_}
 use native.Mathlib.Omega.{arith}
 use mathlib.Core.Bool.{Bool, true, false, not, _&&_, _||_, or-false, or-true, and-false, false≢true}
 use mathlib.Core.List.{List, [], _∷_, _++_, append-assoc, append-nil}
@@ -10,26 +10,30 @@ use lib.ListN.{length, getD, replicate, length-append}
 use borrow.Author.Tests.{lt-ltb, le-ltb, eq-eqb, ne-eqb}
 use Rattle.layout.specs.Words.{bytes4}
 use Rattle.layout.specs.Below.{allBelow}
+use Rattle.layout.specs.Refusals as number
 use Rattle.layout.proofs.Cases.{and-left, and-right}
 use Rattle.table.specs.Table.{numberOf}
-use Rattle.journal.specs.Entries.{Entry, coldBoot, update, disabling, stash, extension, EntryOk, EntriesOk, entryBytes, journalBytes}
+use Rattle.journal.specs.Entries.{Entry, coldBoot, update, disabling, stash, extension, derive, extend, rotate, destroy, EntryOk, EntriesOk, entryBytes, journalBytes}
 use Rattle.journal.specs.Journal.{ended, countAll}
 use Rattle.journal.specs.Statements.{Bytes}
 use Rattle.journal.proofs.Bytes.{bytes-rest, bytes-front}
 use Rattle.sha384.proofs.Sizes.{bytes-append}
+use Rattle.opening.specs.Orders.{NodeCommand}
+use Rattle.opening.specs.Orders as command
 use Rattle.opening.specs.Tasks.{BootInputs, Task, Ruling, accepted, Request, View}
-use Rattle.opening.specs.Rules.{inputsOk, answerOf, stashCode, disableCode, extendCode}
+use Rattle.opening.specs.Rules.{inputsOk, answerOf, stashCode, disableCode, extendCode, invokeCode}
 use Rattle.opening.specs.Recorded.{entryFor, entriesFor}
 use Rattle.history.specs.Calls.{Call, request, updateBoot, store, powerCut, run}
-use Rattle.history.specs.Ledger.{stateOf, any, disables, nextChain, viewOf, Job, jobAt, Ledger, letGo, ledgerRequest, ledgerBoot, ledgerStep, firstLedger}
+use Rattle.history.specs.Ledger.{stateOf, any, disables, nextChain, viewOf, Job, kindAt, jobAt, Ledger, letGo, ledgerRequest, ledgerBoot, ledgerStep, firstLedger}
 use Rattle.history.proofs.Ground.{any-snoc, state-snoc, ruling}
 use Rattle.message.specs.Checksum.{checksumOf}
 use Rattle.journal.specs.Numbers.{numberBytes}
 use Rattle.replaying.specs.Replay.{Replay, fresh, taskOf, bootFrom, viewAt, countable, counted, offAfter}
-use Rattle.replaying.specs.Asked.{sealed, stashAsked, extensionAsked, disableAsked}
+use Rattle.replaying.specs.Asked.{sealed, stashAsked, extensionAsked, disableAsked, invokeAsked, deriveData, extendData, rotateData, destroyData}
 use Rattle.replaying.specs.Lives.{CallOk, CallsOk, Life, LifeOk, LivesOk, historyOf, entriesOver}
 use Rattle.replaying.proofs.Counts.{CountsTo, entries-snoc}
-use Rattle.replaying.proofs.Asked.{stash-accepted, extension-accepted, disable-accepted}
+use Rattle.replaying.proofs.Data.{OrderAsked, derive-asked, extend-asked, rotate-asked, destroy-asked}
+use Rattle.replaying.proofs.Asked.{stash-accepted, extension-accepted, disable-accepted, invoke-accepted}
 
 -- ---- the ledger between works
 
@@ -102,6 +106,21 @@ update-opens : (h : List Task) (runtime manifest : List ℕ) → any disables h 
 unfolding ledgerStep letGo
 update-opens h runtime manifest o p q = rw (inputs-fine runtime manifest p q, o)
 
+-- ---- bytes
+
+no-bytes : Bytes []
+no-bytes i = omega arith
+
+bytes-four : (w : ℕ) → Bytes (bytes4 w)
+bytes-four w zero = omega arith
+bytes-four w (suc zero) = omega arith
+bytes-four w (suc (suc zero)) = omega arith
+bytes-four w (suc (suc (suc zero))) = omega arith
+bytes-four w (suc (suc (suc (suc i)))) = omega arith
+
+sealed-bytes : (code : ℕ) (l : List ℕ) → Bytes l → Bytes (sealed code l)
+sealed-bytes code l h = bytes-append (bytes4 (checksumOf code l)) l (bytes-four (checksumOf code l)) h
+
 -- ---- the calls that make an entry's work
 
 pub record Made (h : List Task) (e : Entry) : Type 0 where
@@ -117,59 +136,72 @@ work-fine c n ok = (ok, stores n)
     stores (suc n) = (tt, stores n)
 
 -- an opened work of at least one store
-made : (h : List Task) (e : Entry) (c : Call) (a : List ℕ) (n : ℕ) → CallOk c
+made : (h : List Task) (e : Entry) (c : Call) (a : List ℕ) → CallOk c
     → ledgerStep (restAt h) c .state ≡ working h (jobAt (stateOf h .chain) (taskOf e) a) 0 false
-    → jobAt (stateOf h .chain) (taskOf e) a .stores ≡ suc n → Made h e
-made h e c a n ok opens s =
-    record { calls = callsFor c (suc n); fine = work-fine c (suc n) ok; ends = run-work h c (jobAt (stateOf h .chain) (taskOf e) a) n opens s }
+    → 0 < jobAt (stateOf h .chain) (taskOf e) a .stores → Made h e
+made h e c a ok opens s =
+    let j = jobAt (stateOf h .chain) (taskOf e) a in
+    let n = j .stores - 1 in
+    record { calls = callsFor c (suc n); fine = work-fine c (suc n) ok; ends = run-work h c j n opens (omega arith) }
 
--- ---- bytes
-
-bytes-four : (w : ℕ) → Bytes (bytes4 w)
-bytes-four w zero = omega arith
-bytes-four w (suc zero) = omega arith
-bytes-four w (suc (suc zero)) = omega arith
-bytes-four w (suc (suc (suc zero))) = omega arith
-bytes-four w (suc (suc (suc (suc i)))) = omega arith
-
-sealed-bytes : (code : ℕ) (l : List ℕ) → Bytes l → Bytes (sealed code l)
-sealed-bytes code l h = bytes-append (bytes4 (checksumOf code l)) l (bytes-four (checksumOf code l)) h
+-- a request for a tree command's entry
+order-made : (h : List Task) (e : Entry) (content fresh : List ℕ) (caller : ℕ) (c : NodeCommand) → OrderAsked e content fresh caller c → Bytes (entryBytes e)
+    → countable (replayOf h) e ≡ true → Made h e
+order-made h e content fresh caller c o s k =
+    let r = invokeAsked content fresh caller in
+    let a = answerOf (bytes4 number.dpeAccepted) in
+    let b = o .bytes s in
+    made h e (request r) a (
+      sealed-bytes invokeCode (bytes4 (length content) ++ content) (bytes-append (bytes4 (length content)) content (bytes-four (length content)) (b .0)),
+      o .small,
+      b .1,
+    )
+    (request-opens h r (taskOf e) a
+    (ap (λ (v : View). ruling v r) (same-view h)
+    ∙ invoke-accepted (viewAt (replayOf h)) refl content fresh caller c (o .reads) (o .short) (sym (o .counts (replayOf h)) ∙ k)
+    ∙ ap (λ (t : Task). accepted t a) (sym (o .task))))
+    (o .stores (stateOf h .chain))
 
 -- ---- entry by entry
 
 pub entry-made : (h : List Task) (e : Entry) → EntryOk e → Bytes (entryBytes e) → countable (replayOf h) e ≡ true
     → ((runtime manifest : List ℕ) → e ≡ coldBoot runtime manifest → ⊥) → Made h e
-unfolding entryBytes numberOf
+unfolding entryBytes numberOf kindAt
 entry-made h (coldBoot r m) ok s c warm = absurd (warm r m refl)
 entry-made h (update r m) ok s c warm =
-    made h (update r m) (updateBoot (bootFrom r m) true) [] _ tt (update-opens h r m (not-off (any disables h) c) (ok .0) (ok .1 .0)) refl
+    made h (update r m) (updateBoot (bootFrom r m) true) [] tt (update-opens h r m (not-off (any disables h) c) (ok .0) (ok .1 .0)) (omega arith)
   where
     not-off : (b : Bool) → not b ≡ true → b ≡ false
     not-off true q = sym q
     not-off false q = refl
 entry-made h disabling ok s c warm =
-    made h disabling (request disableAsked) (answerOf []) _ (sealed-bytes disableCode [] (λ i. omega arith), omega arith)
+    made h disabling (request disableAsked) (answerOf []) (sealed-bytes disableCode [] no-bytes, omega arith, no-bytes)
     (request-opens h disableAsked (taskOf disabling) (answerOf []) (ap (λ (v : View). ruling v disableAsked) (same-view h) ∙ disable-accepted (viewAt (replayOf h)) refl))
-    refl
+    (omega arith)
 entry-made h (stash t d n c) ok s k warm =
     let later = bytes-rest (4 ∷ numberBytes t) (d ++ (numberBytes n ++ (numberBytes c ++ []))) _ refl s in
     let digest : Bytes d = bytes-front d (numberBytes n ++ (numberBytes c ++ [])) _ refl later in
-    made h (stash t d n c) (request (stashAsked t d n c)) (answerOf (bytes4 0)) _ (
+    made h (stash t d n c) (request (stashAsked t d n c)) (answerOf (bytes4 0)) (
       sealed-bytes stashCode (bytes4 t ++ (d ++ bytes4 n))
           (bytes-append (bytes4 t) (d ++ bytes4 n) (bytes-four t) (bytes-append d (bytes4 n) digest (bytes-four n))),
       ok .1 .1 .1 .0,
+      no-bytes,
     )
     (request-opens h (stashAsked t d n c) (taskOf (stash t d n c)) (answerOf (bytes4 0))
     (ap (λ (v : View). ruling v (stashAsked t d n c)) (same-view h)
     ∙ stash-accepted (viewAt (replayOf h)) refl t d n c (ok .0) (ok .1 .0) (ok .1 .1 .0) k))
-    refl
+    (omega arith)
 entry-made h (extension r d) ok s k warm =
     let digest : Bytes d = bytes-front d [] _ refl (bytes-rest (5 ∷ numberBytes r) (d ++ []) _ refl s) in
-    made h (extension r d) (request (extensionAsked r d)) (answerOf []) _
-    (sealed-bytes extendCode (bytes4 r ++ d) (bytes-append (bytes4 r) d (bytes-four r) digest), omega arith)
+    made h (extension r d) (request (extensionAsked r d)) (answerOf [])
+    (sealed-bytes extendCode (bytes4 r ++ d) (bytes-append (bytes4 r) d (bytes-four r) digest), omega arith, no-bytes)
     (request-opens h (extensionAsked r d) (taskOf (extension r d)) (answerOf [])
     (ap (λ (v : View). ruling v (extensionAsked r d)) (same-view h) ∙ extension-accepted (viewAt (replayOf h)) refl r d (ok .0) (ok .1 .0) k))
-    refl
+    (omega arith)
+entry-made h (derive n r t d f c) ok s k warm = order-made h (derive n r t d f c) (deriveData n r t d) f c (command.derive n r t d) (derive-asked n r t d f c ok) s k
+entry-made h (extend n d c) ok s k warm = order-made h (extend n d c) (extendData n d) [] c (command.extend n d) (extend-asked n d c ok) s k
+entry-made h (rotate n f c) ok s k warm = order-made h (rotate n f c) (rotateData n) f c (command.rotate n) (rotate-asked n f c ok) s k
+entry-made h (destroy n c) ok s k warm = order-made h (destroy n c) (destroyData n) [] c (command.destroy n) (destroy-asked n c ok) s k
 
 -- ---- a list of entries that counts
 
@@ -180,6 +212,10 @@ told (update r m) = refl
 told disabling = refl
 told (stash t d s c) = refl
 told (extension r d) = refl
+told (derive h r t d f c) = refl
+told (extend h d c) = refl
+told (rotate h f c) = refl
+told (destroy h c) = refl
 
 -- a cold boot begins anew, whatever was before
 pub counted-cold : (x : Replay) (r m : List ℕ) → counted x (coldBoot r m) ≡ replayOf (taskOf (coldBoot r m) ∷ [])
@@ -201,6 +237,10 @@ isCold (update r m) = false
 isCold disabling = false
 isCold (stash t d s c) = false
 isCold (extension r d) = false
+isCold (derive h r t d f c) = false
+isCold (extend h d c) = false
+isCold (rotate h f c) = false
+isCold (destroy h c) = false
 
 -- the lives of the entries so far, whose last is under way, and of those that follow
 abbrev Lived : List Entry → Type 0
@@ -253,6 +293,10 @@ module _ (y : Replay) where
   grow (disabling ∷ es) x calls h i ok q f s c = more disabling es (grow es) x calls h i ok q f s c (sym (or-true (any disables h))) (λ a b z. false≢true (ap isCold z))
   grow (stash t d n k ∷ es) x calls h i ok q f s c = more (stash t d n k) es (grow es) x calls h i ok q f s c (sym (or-false (any disables h))) (λ a b z. false≢true (ap isCold z))
   grow (extension n d ∷ es) x calls h i ok q f s c = more (extension n d) es (grow es) x calls h i ok q f s c (sym (or-false (any disables h))) (λ a b z. false≢true (ap isCold z))
+  grow (derive n r t d w k ∷ es) x calls h i ok q f s c = more (derive n r t d w k) es (grow es) x calls h i ok q f s c (sym (or-false (any disables h))) (λ a b z. false≢true (ap isCold z))
+  grow (extend n d k ∷ es) x calls h i ok q f s c = more (extend n d k) es (grow es) x calls h i ok q f s c (sym (or-false (any disables h))) (λ a b z. false≢true (ap isCold z))
+  grow (rotate n w k ∷ es) x calls h i ok q f s c = more (rotate n w k) es (grow es) x calls h i ok q f s c (sym (or-false (any disables h))) (λ a b z. false≢true (ap isCold z))
+  grow (destroy n k ∷ es) x calls h i ok q f s c = more (destroy n k) es (grow es) x calls h i ok q f s c (sym (or-false (any disables h))) (λ a b z. false≢true (ap isCold z))
 
   -- before the first cold boot nothing else counts
   pub lived : (es : List Entry) → EntriesOk es → Bytes (journalBytes es) → CountsTo fresh es y → Lived es
@@ -262,3 +306,7 @@ module _ (y : Replay) where
   lived (disabling ∷ es) f s c = absurd (false≢true (c .0))
   lived (stash t d n k ∷ es) f s c = absurd (false≢true (c .0))
   lived (extension n d ∷ es) f s c = absurd (false≢true (c .0))
+  lived (derive n r t d w k ∷ es) f s c = absurd (false≢true (c .0))
+  lived (extend n d k ∷ es) f s c = absurd (false≢true (c .0))
+  lived (rotate n w k ∷ es) f s c = absurd (false≢true (c .0))
+  lived (destroy n k ∷ es) f s c = absurd (false≢true (c .0))

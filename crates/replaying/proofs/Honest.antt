@@ -6,20 +6,23 @@ use mathlib.Core.Bool.{Bool, true, false, cond, not, _&&_, _||_, or-false, or-tr
 use mathlib.Core.List.{List, [], _∷_, _++_}
 use mathlib.Core.Option.{Option, none, some}
 use lib.Dec.{eqb}
+use lib.ListN.{drop}
 use Rattle.tree.specs.Tree.{Tree}
 use Rattle.journal.specs.Entries.{Entry}
 use Rattle.journal.specs.Entries as entry
-use Rattle.opening.specs.Tasks.{BootInputs, Measurement, RegisterExtension, Request, Task, noStores, keptBoot, disableCommand, disablingBoot, stash, update, coldBoot, extension, Ruling, refused, accepted, View}
-use Rattle.opening.specs.Rules.{Rule, Command, stashMeasurement, disableAttestation, identityKey, verifySignature, extendRegister, unknownCommand, commandOf, stashCode, disableCode, identityCode, verifyCode, extendCode, measurementIn, extensionIn, stashRules, extendRules, served, requestRules, bootRules, bootRuling, updateTask}
+use Rattle.opening.specs.Orders.{NodeCommand, derive, extend, rotate, destroy, malformed, commandIn, freshFor}
+use Rattle.opening.specs.Tasks.{BootInputs, Measurement, RegisterExtension, Order, Request, Task, noStores, keptBoot, disableCommand, disablingBoot, stash, update, coldBoot, extension, invoke, Ruling, refused, accepted, View}
+use Rattle.opening.specs.Rules.{Rule, Command, stashMeasurement, disableAttestation, identityKey, verifySignature, extendRegister, invokeDpe, unknownCommand, commandOf, stashCode, disableCode, identityCode, verifyCode, extendCode, invokeCode, measurementIn, extensionIn, stashRules, extendRules, invokeRules, served, requestRules, bootRules, bootRuling, updateTask}
 use Rattle.opening.specs.Works.{factsOf}
-use Rattle.opening.specs.Recorded.{entryFor, entriesFor}
+use Rattle.opening.specs.Recorded.{entryOrdered, entryFor, entriesFor}
 use Rattle.opening.proofs.Decided.{NoneApply, decided, ruled-decided, negated}
 use Rattle.history.specs.Calls.{Call, request, updateBoot, store, answer, powerCut, Step, run}
 use Rattle.history.specs.Calls as call
 use Rattle.history.specs.Ledger.{Contents, Chain, treeAt, nextChain, blank, next, stateOf, any, disables, isOff, viewOf, Job, Ledger, letGo, ledgerRequest, ledgerBoot, updateRuling, ledgerStore, ledgerStep, firstLedger}
 use Rattle.history.proofs.Ground.{any-snoc, state-snoc, ruling}
-use Rattle.replaying.specs.Replay.{Replay, fresh, taskOf, viewAt, passes, countable, offAfter, counted, bootFrom, measurementFrom, extensionFrom}
+use Rattle.replaying.specs.Replay.{Replay, taskOf, viewAt, passes, ordered, countable, offAfter, counted, bootFrom}
 use Rattle.replaying.specs.Lives.{Alike}
+use Rattle.replaying.proofs.Data.{askedFor}
 use Rattle.replaying.proofs.Counts.{CountsTo, counts-append, entries-snoc}
 use Rattle.replaying.proofs.Stores.{stepped, by-store}
 
@@ -87,25 +90,25 @@ module _ (h : List Task) (t u : Bool) (x : Replay) (a : Alike x h) where
   unfolding viewOf
   same-nodes = ap treeAt (sym (a .chain))
 
+  -- rules that look at "is it on" and at the nodes, seen while on
+  seen : (rules : Bool → Tree → List Rule) → viewOf h t u .on ≡ true → NoneApply (rules (viewOf h t u .on) (viewOf h t u .nodes))
+      → passes (rules (viewAt x .on) (viewAt x .nodes)) ≡ true
+  seen rules on n =
+      ap (λ (z : Tree). passes (rules (not (x .off)) z)) (sym same-nodes)
+      ∙ ap (λ (o : Bool). passes (rules o (viewOf h t u .nodes))) (ap not (on-off on) ∙ sym on)
+      ∙ passed (rules (viewOf h t u .on) (viewOf h t u .nodes)) n
+
+  abbrev seeing : Bool → Tree → View
+  seeing o z = record { done = true; on = o; nodes = z }
+
   stash-counts : (m : Measurement) → NoneApply (stashRules (viewOf h t u) m) → countable x (entry.stash (m .type) (m .digest) (m .svn) (m .caller)) ≡ true
-  stash-counts m n =
-      rw (a .booted)
-      (ap (λ (z : Tree). passes (stashRules (record { done = true; on = not (x .off); nodes = z }) m)) (sym same-nodes)
-      ∙ ap (λ (o : Bool). passes (stashRules (record { done = true; on = o; nodes = viewOf h t u .nodes }) m))
-      (ap not (on-off on) ∙ sym on)
-      ∙ passed (stashRules (viewOf h t u) m) n)
-    where
-      on : viewOf h t u .on ≡ true
-      on = negated (viewOf h t u .on) (n .0)
+  stash-counts m n = rw (a .booted) (seen (λ o z. stashRules (seeing o z) m) (negated (viewOf h t u .on) (n .0)) n)
 
   extension-counts : (e : RegisterExtension) → NoneApply (extendRules (viewOf h t u) e) → countable x (entry.extension (e .register) (e .digest)) ≡ true
-  extension-counts e n =
-      rw (a .booted)
-      (ap (λ (o : Bool). passes (extendRules (record { done = true; on = o; nodes = viewAt x .nodes }) e)) (ap not (on-off on) ∙ sym on)
-      ∙ passed (extendRules (viewOf h t u) e) n)
-    where
-      on : viewOf h t u .on ≡ true
-      on = negated (viewOf h t u .on) (n .1 .0)
+  extension-counts e n = rw (a .booted) (seen (λ o z. extendRules (seeing o z) e) (negated (viewOf h t u .on) (n .1 .0)) n)
+
+  order-counts : (o : Order) → NoneApply (invokeRules (viewOf h t u) o) → ordered x o ≡ true
+  order-counts o n = rw (a .booted) (seen (λ b z. invokeRules (seeing b z) o) (negated (viewOf h t u .on) (n .0)) n)
 
 -- ---- what the rules accept counts
 
@@ -137,18 +140,38 @@ module _ (h : List Task) (t u : Bool) (r : Request) where
       entry-joins h (extension e) (entry.extension (e .register) (e .digest)) refl (λ x a. extension-counts h t u x a e n) (λ b. sym (or-false b))
       (λ x. refl)
 
+  -- a tree command's entry is the one that tells its order
+  order-told : (c : NodeCommand) (fresh : List ℕ) (caller : ℕ) (e : Entry) → entryOrdered c (freshFor c fresh) caller ≡ e ∷ []
+      → taskOf e ≡ invoke (askedFor c fresh caller) → ((x : Replay) → countable x e ≡ ordered x (askedFor c fresh caller))
+      → ((b : Bool) → offAfter b e ≡ b) → NoneApply (invokeRules (viewOf h t u) (askedFor c fresh caller))
+      → Joins h (invoke (askedFor c fresh caller))
+  order-told c fresh caller e f k o b n =
+      let w = askedFor c fresh caller in
+      entry-joins h (invoke w) e f (λ x a. o x ∙ order-counts h t u x a w n) (λ q. b q ∙ sym (or-false q)) (λ x. ap (nextChain x) k)
+
+  order-joins : (c : NodeCommand) (fresh : List ℕ) (caller : ℕ) → NoneApply (invokeRules (viewOf h t u) (askedFor c fresh caller))
+      → Joins h (invoke (askedFor c fresh caller))
+  order-joins (derive k i ty d) fresh caller n =
+      order-told (derive k i ty d) fresh caller (entry.derive k i ty d fresh caller) refl refl (λ x. refl) (λ b. refl) n
+  order-joins (extend k d) fresh caller n = order-told (extend k d) fresh caller (entry.extend k d caller) refl refl (λ x. refl) (λ b. refl) n
+  order-joins (rotate k) fresh caller n = order-told (rotate k) fresh caller (entry.rotate k fresh caller) refl refl (λ x. refl) (λ b. refl) n
+  order-joins (destroy k) fresh caller n = order-told (destroy k) fresh caller (entry.destroy k caller) refl refl (λ x. refl) (λ b. refl) n
+  order-joins malformed fresh caller n = absurd (true≢false (n .1 .1 .0))
+
   served-joins : By (commandOf (r .code))
   served-joins = go (eqb (r .code) stashCode) (eqb (r .code) disableCode) (eqb (r .code) identityCode) (eqb (r .code) verifyCode) (eqb (r .code) extendCode)
+      (eqb (r .code) invokeCode)
     where
-      go : (v w x y z : Bool)
-          → By (cond v stashMeasurement
-          (cond w disableAttestation (cond x identityKey (cond y verifySignature (cond z extendRegister unknownCommand)))))
-      go true w x y z = stash-joins
-      go false true x y z = disable-joins
-      go false false true y z = λ n. idle-request h
-      go false false false true z = λ n. idle-request h
-      go false false false false true = extension-joins
-      go false false false false false = λ n. idle-request h
+      go : (u v w x y z : Bool)
+          → By (cond u stashMeasurement
+          (cond v disableAttestation (cond w identityKey (cond x verifySignature (cond y extendRegister (cond z invokeDpe unknownCommand))))))
+      go true v w x y z = stash-joins
+      go false true w x y z = disable-joins
+      go false false true x y z = λ n. idle-request h
+      go false false false true y z = λ n. idle-request h
+      go false false false false true z = extension-joins
+      go false false false false false true = order-joins (commandIn (drop 8 (r .bytes))) (r .fresh) (r .caller)
+      go false false false false false false = λ n. idle-request h
 
 request-joins : (h : List Task) (t u : Bool) (r : Request) → RulingOk h (ruling (viewOf h t u) r)
 unfolding ruling

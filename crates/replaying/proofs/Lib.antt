@@ -2,6 +2,8 @@
 pub mod Cards
 pub mod Counts
 pub mod Stores
+pub mod Short
+pub mod Data
 pub mod Honest
 pub mod Fits
 pub mod Accepted

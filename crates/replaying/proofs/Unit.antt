@@ -1,32 +1,33 @@
 -- A host that keeps every work's entry keeps the journal of demand 3's history. Assumes nothing.
 use mathlib.Core.Path.{_≡_, refl, sym, ap, _∙_, subst}
-use Prim.Native.Nat.{ℕ, zero, suc, _+_, _-_, _/_, _%_, _≤_}
+use Prim.Native.Nat.{ℕ, suc, _+_, _-_, _≤_}
 use native.Mathlib.Omega.{arith}
 use mathlib.Core.Bool.{Bool, true, false, cond, not}
 use mathlib.Core.List.{List, [], _∷_, _++_, append-assoc, append-nil}
 use mathlib.Core.Option.{Option, none, some, Option·none-ne-some}
 use lib.Dec.{ltb, eqb}
-use lib.ListN.{length, take, drop, length-append}
+use lib.ListN.{length, take, drop}
 use lib.Seq.{take-append-seam}
 use borrow.Author.Tests.{le-ltb, ne-eqb, eqb-true}
 use Rattle.layout.specs.Sizes.{imageWords}
 use Rattle.layout.specs.Words.{zeros}
 use Rattle.layout.specs.Refusals.{wrongImage, wrongInputs, storesLeft, shortBuffer, shortEntry}
 use Rattle.layout.proofs.Tab.{length-zeros}
-use Rattle.journal.specs.Numbers.{groups, numberBytes}
 use Rattle.journal.specs.Entries.{Entry, entryBytes, journalBytes, longest}
+use Rattle.journal.specs.Entries as entry
 use Rattle.journal_bytes.specs.Results.{takenNumber, takenBuffer}
 use Rattle.work.specs.declared.Work.{Work}
 use Rattle.work.specs.Entries.{finished}
 use Rattle.work.specs.Recorded.{entriesOf, entryNumber, entryResult, entryBuffer}
 use Rattle.making.specs.Run.{allStores}
 use Rattle.making.proofs.After.{all-kept, all-finished}
-use Rattle.opening.specs.Tasks.{BootInputs, Task, noStores, keptBoot, disableCommand, disablingBoot, stash, update, coldBoot, extension, Ruling, refused, accepted}
+use Rattle.opening.specs.Orders.{NodeCommand, derive, extend, rotate, destroy, malformed}
+use Rattle.opening.specs.Tasks.{BootInputs, Task, noStores, keptBoot, disableCommand, disablingBoot, stash, update, coldBoot, extension, invoke, Ruling, refused, accepted}
 use Rattle.opening.specs.Rules.{inputsOk}
 use Rattle.opening.specs.Works.{workAt}
 use Rattle.opening.specs.Openings.{bootedOf, openColdBoot, bootNumber}
-use Rattle.opening.specs.Recorded.{entryFor, entriesFor}
-use Rattle.opening.proofs.Recorded.{Told, entry-at}
+use Rattle.opening.specs.Recorded.{entryOrdered, entryFor, entriesFor}
+use Rattle.opening.proofs.Recorded.{ToldOrder, Told, entry-at}
 use Rattle.history.specs.Calls.{Call, request, updateBoot, store, answer, powerCut, Result, refusal, opened, booted, stored, answered, recorded, noWork, cutOff, Hand, Machine, Step, step, run}
 use Rattle.history.specs.Calls as call
 use Rattle.history.specs.Ledger.{Job, Ledger, viewOf, letGo, ledgerRequest, ledgerBoot, updateRuling, ledgerStore, ledgerAnswer, ledgerEntry, ledgerStep, firstLedger}
@@ -35,47 +36,31 @@ use Rattle.history.proofs.Ground.{ruling, digests-long}
 use Rattle.history.proofs.Sim.{Carried, carried-entry, Inv, empty, done, going, Related, Together, sim}
 use Rattle.history.proofs.Demand.{cold-shaped, cold-start}
 use Rattle.replaying.specs.Unit.{takenFrom, isLast, inHand, added, addedBy, unitJournal, Records}
+use Rattle.replaying.proofs.Short.{entry-short}
 use Rattle.replaying.proofs.Counts.{entries-snoc}
 use Rattle.replaying.proofs.Stores.{by-store}
 
--- ---- no entry is longer than the longest
+-- ---- a task's entry has its digests and handles, and is not too long
 
-groups-short : (n x : ℕ) → length (groups n x) ≤ suc n
-unfolding groups
-groups-short zero x = omega arith
-groups-short (suc n) x = go (ltb x 128) (groups-short n (x / 128))
-  where
-    go : (b : Bool) → length (groups n (x / 128)) ≤ suc n → length (cond b (x ∷ []) ((128 + x % 128) ∷ groups n (x / 128))) ≤ suc (suc n)
-    go true h = omega arith
-    go false h = omega arith
+order-short : (c : NodeCommand) (fresh : List ℕ) (caller : ℕ) → ToldOrder c fresh → length (journalBytes (entryOrdered c fresh caller)) ≤ longest
+order-short (derive h r t d) fresh caller s =
+    entry-short (entry.derive h r t d fresh caller) (s .0, (tt, (tt, (s .1, (s .2, (tt, tt)))))) (omega arith)
+order-short (extend h d) fresh caller s = entry-short (entry.extend h d caller) (s .0, (s .1, (tt, tt))) (omega arith)
+order-short (rotate h) fresh caller s = entry-short (entry.rotate h fresh caller) (s .0, (s .1, (tt, tt))) (omega arith)
+order-short (destroy h) fresh caller s = entry-short (entry.destroy h caller) (s, (tt, tt)) (omega arith)
+order-short malformed fresh caller s = omega arith
 
--- kinds and fields one after another
-four-short : (k : ℕ) (a b c d : List ℕ) → length a + length b + length c + length d ≤ 96 → length ((k ∷ (a ++ (b ++ (c ++ (d ++ []))))) ++ []) ≤ longest
-four-short k a b c d h =
-    omega (
-      arith,
-      length-append (k ∷ (a ++ (b ++ (c ++ (d ++ []))))) [],
-      length-append a (b ++ (c ++ (d ++ []))),
-      length-append b (c ++ (d ++ [])),
-      length-append c (d ++ []),
-      length-append d [],
-    )
-
-two-short : (k : ℕ) (a b : List ℕ) → length a + length b ≤ 96 → length ((k ∷ (a ++ (b ++ []))) ++ []) ≤ longest
-two-short k a b h = omega (arith, length-append (k ∷ (a ++ (b ++ []))) [], length-append a (b ++ []), length-append b [])
-
-entry-short : (t : Task) → Told t → length (journalBytes (entryFor t)) ≤ longest
+task-short : (t : Task) → Told t → length (journalBytes (entryFor t)) ≤ longest
 unfolding entryBytes
-entry-short noStores h = omega arith
-entry-short keptBoot h = omega arith
-entry-short disableCommand h = omega arith
-entry-short disablingBoot h = omega arith
-entry-short (stash x) h =
-    four-short 4 (numberBytes (x .type)) (x .digest) (numberBytes (x .svn)) (numberBytes (x .caller))
-    (omega (arith, h, groups-short 4 (x .type), groups-short 4 (x .svn), groups-short 4 (x .caller)))
-entry-short (update x) h = two-short 2 (x .runtime) (x .manifest) (omega (arith, h .0, h .1))
-entry-short (coldBoot x) h = two-short 1 (x .runtime) (x .manifest) (omega (arith, h .0, h .1))
-entry-short (extension x) h = two-short 5 (numberBytes (x .register)) (x .digest) (omega (arith, h, groups-short 4 (x .register)))
+task-short noStores h = omega arith
+task-short keptBoot h = omega arith
+task-short disableCommand h = omega arith
+task-short disablingBoot h = omega arith
+task-short (stash x) h = entry-short (entry.stash (x .type) (x .digest) (x .svn) (x .caller)) (tt, (h, (tt, (tt, tt)))) (omega arith)
+task-short (update x) h = entry-short (entry.update (x .runtime) (x .manifest)) (h .0, (h .1, tt)) (omega arith)
+task-short (coldBoot x) h = entry-short (entry.coldBoot (x .runtime) (x .manifest)) (h .0, (h .1, tt)) (omega arith)
+task-short (extension x) h = entry-short (entry.extension (x .register) (x .digest)) (tt, (h, tt)) (omega arith)
+task-short (invoke o) h = order-short (o .command) (o .fresh) (o .caller) h
 
 -- ---- a finished work's entry
 
@@ -114,7 +99,7 @@ taken-entry w j k c e =
     all-taken =
         rw (
           le-ltb k (j .stores) (omega arith),
-          le-ltb (length (zeros longest)) (length (journalBytes (entryFor (j .task)))) (omega (arith, length-zeros longest, entry-short (j .task) (c .told))),
+          le-ltb (length (zeros longest)) (length (journalBytes (entryFor (j .task)))) (omega (arith, length-zeros longest, task-short (j .task) (c .told))),
         )
 
 -- ---- call by call
@@ -249,7 +234,7 @@ cold-entry before x e =
     let same : entriesOf (allStores w before .work) ≡ entryFor (coldBoot x) = kept w ∙ entry-at before (coldBoot x) [] told in
     ap (λ (v : Work). takenFrom (allStores v before .work)) (o .2)
     ∙ taken-finished (allStores w before .work) (all-finished before (o .0) w (cold-shaped before x))
-    (subst (λ (es : List Entry). length (journalBytes es) ≤ longest) (sym same) (entry-short (coldBoot x) told))
+    (subst (λ (es : List Entry). length (journalBytes es) ≤ longest) (sym same) (task-short (coldBoot x) told))
     ∙ ap journalBytes same
   where
     kept : (w : Work) → entriesOf (allStores w before .work) ≡ entriesOf w

@@ -16,9 +16,9 @@ use Rattle.replaying.specs.Replay.{Replay, replay}
 
 -- ---- what a unit can have done
 
--- a call as the code can make it: a request's bytes are bytes, and the caller's number has 32 bits
+-- a call as the code can make it: a request's bytes and its fresh handle's are bytes, and the caller's number has 32 bits
 abbrev pub CallOk : Call → Type 0
-CallOk (request r) = Bytes (r .bytes) × (r .caller < 2 ^ 32)
+CallOk (request r) = Bytes (r .bytes) × (r .caller < 2 ^ 32) × Bytes (r .fresh)
 CallOk (updateBoot x verdict) = Unit {0}
 CallOk store = Unit {0}
 CallOk (answer buffer) = Unit {0}

@@ -1,3 +1,4 @@
 -- Laws that belong to no one function.
 pub mod Sealing
 pub mod Order
+pub mod Invoked

@@ -57,3 +57,11 @@ pub(crate) fn ready_plain(kind: Kind, rest: &[u8]) -> Opened
 {
     ready_with(kind, no_values(), rest)
 }
+
+// A request is declined: nothing to store, and its dpe result in the answer.
+pub(crate) fn declined(result: u32) -> Opened
+    ensures { λ r. ⌜ r ≡ record { work = plainWork Kind.Nothing (answerOf (bytes4 result)); status = Status.Ready } ⌝ }
+{
+    let dpe = four(result);
+    ready_plain(Kind::Nothing, &dpe)
+}

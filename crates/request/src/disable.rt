@@ -10,7 +10,7 @@ use opening::Opened;
 use table::Kind;
 
 pub(crate) fn serve_disable(image: &[u32]) -> Opened
-    ensures { λ r. ⌜ r ≡ screenedOpened disableAttestation (now (image .entry)) (requestOf disableCode [] 0 [] false) ⌝ }
+    ensures { λ r. ⌜ r ≡ screenedOpened disableAttestation (now (image .entry)) (requestOf disableCode [] 0 [] false []) ⌝ }
 {
     ready_plain(Kind::Disabling, &[])
 }

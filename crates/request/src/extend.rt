@@ -32,15 +32,15 @@ const DIGEST_FROM: usize = 8;
 
 // The register's number.
 fn register_in(bytes: &[u8]) -> usize
-    ensures { λ r. ⌜ r ≡ extensionIn (requestOf extendCode (now (bytes .entry)) 0 [] false) .register ⌝ }
+    ensures { λ r. ⌜ r ≡ extensionIn (requestOf extendCode (now (bytes .entry)) 0 [] false []) .register ⌝ }
 {
     read32(bytes, REGISTER_FROM) as usize
 }
 
 // The words that an extension will store, its register's, and the digest that its entry tells.
 fn extension_values(image: &[u32], bytes: &[u8], register: usize) -> Values
-    requires { ⌜ (length (now bytes) ≡ extendLength) × (extendable register ≡ true) × (register ≡ extensionIn (requestOf extendCode (now bytes) 0 [] false) .register) ⌝ }
-    ensures { λ r. ⌜ r ≡ extensionValues (extensionIn (requestOf extendCode (now (bytes .entry)) 0 [] false)) (now (image .entry)) ⌝ }
+    requires { ⌜ (length (now bytes) ≡ extendLength) × (extendable register ≡ true) × (register ≡ extensionIn (requestOf extendCode (now bytes) 0 [] false []) .register) ⌝ }
+    ensures { λ r. ⌜ r ≡ extensionValues (extensionIn (requestOf extendCode (now (bytes .entry)) 0 [] false [])) (now (image .entry)) ⌝ }
 {
     let digest = bytes_of(bytes, DIGEST_FROM);
     let words = extended_register(image, register, digest);
@@ -56,8 +56,8 @@ fn extension_values(image: &[u32], bytes: &[u8], register: usize) -> Values
 
 // An accepted extension.
 fn accepted(image: &[u32], bytes: &[u8], register: usize) -> Opened
-    requires { ⌜ (length (now bytes) ≡ extendLength) × (extendable register ≡ true) × (register ≡ extensionIn (requestOf extendCode (now bytes) 0 [] false) .register) ⌝ }
-    ensures { λ r. ⌜ r ≡ record { work = workAt (now (image .entry)) (extension (extensionIn (requestOf extendCode (now (bytes .entry)) 0 [] false))) (answerOf []); status = Status.Ready } ⌝ }
+    requires { ⌜ (length (now bytes) ≡ extendLength) × (extendable register ≡ true) × (register ≡ extensionIn (requestOf extendCode (now bytes) 0 [] false []) .register) ⌝ }
+    ensures { λ r. ⌜ r ≡ record { work = workAt (now (image .entry)) (extension (extensionIn (requestOf extendCode (now (bytes .entry)) 0 [] false []))) (answerOf []); status = Status.Ready } ⌝ }
 {
     let values = extension_values(image, bytes, register);
     ready_with(Kind::Extension(register), values, &[])
@@ -66,7 +66,7 @@ fn accepted(image: &[u32], bytes: &[u8], register: usize) -> Opened
 // The command, once length and checksum are fine.
 pub(crate) fn serve_extend(image: &[u32], bytes: &[u8]) -> Opened
     requires { ⌜ (length (now image) ≡ imageWords) × (length (now bytes) ≡ extendLength) ⌝ }
-    ensures { λ r. ⌜ r ≡ screenedOpened extendRegister (now (image .entry)) (requestOf extendCode (now (bytes .entry)) 0 [] false) ⌝ }
+    ensures { λ r. ⌜ r ≡ screenedOpened extendRegister (now (image .entry)) (requestOf extendCode (now (bytes .entry)) 0 [] false []) ⌝ }
 {
     let register = register_in(bytes);
     if !may_extend(register) {

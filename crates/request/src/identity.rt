@@ -38,7 +38,7 @@ fn handoff_ok(h: &[u8]) -> bool
 }
 
 pub(crate) fn serve_identity(image: &[u32], handoff: &[u8]) -> Opened
-    ensures { λ r. ⌜ r ≡ screenedOpened identityKey (now (image .entry)) (requestOf identityCode [] 0 (now (handoff .entry)) false) ⌝ }
+    ensures { λ r. ⌜ r ≡ screenedOpened identityKey (now (image .entry)) (requestOf identityCode [] 0 (now (handoff .entry)) false []) ⌝ }
 {
     if handoff_ok(handoff) {
         return ready_plain(Kind::Nothing, &handoff[KEY_START..KEY_END]);

@@ -3,6 +3,7 @@ mod answer;
 mod disable;
 mod extend;
 mod identity;
+mod invoke;
 pub mod open;
 mod register;
 mod screen;

@@ -10,6 +10,8 @@ ghost use Rattle.request.specs.Screen.{commandScreen, screenedOpened};
 use crate::disable::serve_disable;
 use crate::extend::serve_extend;
 use crate::identity::serve_identity;
+use crate::invoke::screen_invoke;
+use crate::invoke::serve_invoke;
 use crate::screen::screen;
 use crate::stash::serve_stash;
 use crate::verify::serve_verify;
@@ -25,6 +27,7 @@ use opening::commands::DISABLE_CODE;
 use opening::commands::EXTEND_CODE;
 use opening::commands::EXTEND_LENGTH;
 use opening::commands::IDENTITY_CODE;
+use opening::commands::INVOKE_CODE;
 use opening::commands::STASH_CODE;
 use opening::commands::STASH_LENGTH;
 use opening::commands::VERIFY_CODE;
@@ -41,6 +44,7 @@ fn command_screen(code: u32, bytes: &[u8]) -> Status
         IDENTITY_CODE => return screen(code, bytes, BARE_LENGTH),
         VERIFY_CODE => return screen(code, bytes, VERIFY_LENGTH),
         EXTEND_CODE => return screen(code, bytes, EXTEND_LENGTH),
+        INVOKE_CODE => return screen_invoke(bytes),
         _ => return Status::Refused(UNKNOWN_CODE),
     }
 }
@@ -53,9 +57,10 @@ fn serve(
     caller: u32,
     handoff: &[u8],
     verdict: bool,
+    fresh: &[u8],
 ) -> Opened
     requires { ⌜ (length (now image) ≡ imageWords) × (commandOf code .lengthOk (now bytes) ≡ true) ⌝ }
-    ensures { λ r. ⌜ r ≡ screenedOpened (commandOf code) (now (image .entry)) (requestOf code (now (bytes .entry)) caller (now (handoff .entry)) verdict) ⌝ }
+    ensures { λ r. ⌜ r ≡ screenedOpened (commandOf code) (now (image .entry)) (requestOf code (now (bytes .entry)) caller (now (handoff .entry)) verdict (now (fresh .entry))) ⌝ }
 {
     match code {
         STASH_CODE => return serve_stash(image, bytes, caller),
@@ -63,6 +68,7 @@ fn serve(
         IDENTITY_CODE => return serve_identity(image, handoff),
         VERIFY_CODE => return serve_verify(image, verdict),
         EXTEND_CODE => return serve_extend(image, bytes),
+        INVOKE_CODE => return serve_invoke(image, bytes, caller, fresh),
         _ => return refused(UNKNOWN_CODE),
     }
 }
@@ -75,9 +81,10 @@ pub fn open_request(
     caller: u32,
     handoff: &[u8],
     verdict: bool,
+    fresh: &[u8],
 ) -> Opened
-    ensures { λ r. ⌜ r ≡ openRequest (now (image .entry)) (requestOf code (now (bytes .entry)) caller (now (handoff .entry)) verdict) ⌝ }
-    ensures { λ r. ⌜ statusNumber (r .status) ≡ statusNumber (openRequest (now (image .entry)) (requestOf code (now (bytes .entry)) caller (now (handoff .entry)) verdict) .status) ⌝ }
+    ensures { λ r. ⌜ r ≡ openRequest (now (image .entry)) (requestOf code (now (bytes .entry)) caller (now (handoff .entry)) verdict (now (fresh .entry))) ⌝ }
+    ensures { λ r. ⌜ statusNumber (r .status) ≡ statusNumber (openRequest (now (image .entry)) (requestOf code (now (bytes .entry)) caller (now (handoff .entry)) verdict (now (fresh .entry))) .status) ⌝ }
 {
     if image.len() != IMAGE_WORDS {
         return refused(WRONG_IMAGE);
@@ -88,6 +95,6 @@ pub fn open_request(
     let status = command_screen(code, bytes);
     match status {
         Status::Refused(number) => return refused(number),
-        Status::Ready => return serve(image, code, bytes, caller, handoff, verdict),
+        Status::Ready => return serve(image, code, bytes, caller, handoff, verdict, fresh),
     }
 }

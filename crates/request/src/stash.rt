@@ -8,20 +8,21 @@ ghost use Rattle.layout.specs.Sizes.{imageWords, nodeCount};
 ghost use Rattle.layout.specs.Words.{bytes4};
 ghost use Rattle.tree.specs.Tree.{lowestFree, nodeWith, defaultWords};
 ghost use Rattle.tree.specs.Nodes.{treeIn};
-ghost use Rattle.making.specs.Made.{plainWork};
 ghost use Rattle.opening.specs.Tasks.{requestOf, stash};
 ghost use Rattle.opening.specs.Rules.{answerOf, measurementIn, stashMeasurement, stashCode, stashLength};
 ghost use Rattle.opening.specs.Works.{workAt, stashValues};
 ghost use Rattle.request.specs.Screen.{screenedOpened};
-use crate::answer::ready_plain;
+use crate::answer::declined;
 use crate::answer::ready_with;
 use crate::register::extended_register;
 use layout::ATTESTATION_AT;
+use layout::HANDLE_BYTES;
 use layout::NODES;
 use layout::REGISTER_WORDS;
 use layout::STASH_REGISTER;
 use layout::refusals::DPE_ACCEPTED;
 use layout::refusals::DPE_FULL;
+use layout::refusals::DPE_NO_HOLDER;
 use layout::refusals::DPE_OFF;
 use layout::refusals::NOT_WELL_FORMED;
 use making::Values;
@@ -51,14 +52,23 @@ const SVN_FROM: usize = 56;
 // tells.
 fn stash_values(image: &[u32], bytes: &[u8], caller: u32, holder: usize) -> Values
     requires { ⌜ (length (now bytes) ≡ stashLength) × (holder ≤ nodeCount) × (holder ≡ nodeWith nodeCount (treeIn (now image)) defaultWords) ⌝ }
-    ensures { λ r. ⌜ r ≡ stashValues (measurementIn (requestOf stashCode (now (bytes .entry)) caller [] false)) (now (image .entry)) ⌝ }
+    ensures { λ r. ⌜ r ≡ stashValues (measurementIn (requestOf stashCode (now (bytes .entry)) caller [] false [])) (now (image .entry)) ⌝ }
 {
     let digest = bytes_of(bytes, DIGEST_FROM);
     let register = extended_register(image, STASH_REGISTER, digest);
     let cumulative = extend([0u8; 48], digest);
     let kind = read32(bytes, TYPE_FROM);
     let svn = read32(bytes, SVN_FROM);
-    let node = node_row(holder as u16, 0, digest, cumulative, kind, caller, svn);
+    let node = node_row(
+        holder as u16,
+        [0u8; HANDLE_BYTES],
+        0,
+        digest,
+        cumulative,
+        kind,
+        caller,
+        svn,
+    );
     let inputs = joined(digest, [0u8; 48]);
     Values {
         register,
@@ -69,29 +79,21 @@ fn stash_values(image: &[u32], bytes: &[u8], caller: u32, holder: usize) -> Valu
     }
 }
 
-// An accepted stash, at the free node `node`.
-fn accepted(image: &[u32], bytes: &[u8], caller: u32, node: usize) -> Opened
+// An accepted stash, at the free node `node` below `holder`.
+fn accepted(image: &[u32], bytes: &[u8], caller: u32, node: usize, holder: usize) -> Opened
     requires { ⌜ (length (now bytes) ≡ stashLength) × (node ≡ lowestFree nodeCount (treeIn (now image))) ⌝ }
-    ensures { λ r. ⌜ r ≡ record { work = workAt (now (image .entry)) (stash (measurementIn (requestOf stashCode (now (bytes .entry)) caller [] false))) (answerOf (bytes4 0)); status = Status.Ready } ⌝ }
+    requires { ⌜ (holder ≤ nodeCount) × (holder ≡ nodeWith nodeCount (treeIn (now image)) defaultWords) ⌝ }
+    ensures { λ r. ⌜ r ≡ record { work = workAt (now (image .entry)) (stash (measurementIn (requestOf stashCode (now (bytes .entry)) caller [] false []))) (answerOf (bytes4 0)); status = Status.Ready } ⌝ }
 {
-    let holder = holder_index(image);
     let values = stash_values(image, bytes, caller, holder);
     let dpe = four(DPE_ACCEPTED);
     ready_with(Kind::Stash(StashAt { node, holder }), values, &dpe)
 }
 
-// A declined stash: nothing to store, and its dpe result in the answer.
-fn declined(result: u32) -> Opened
-    ensures { λ r. ⌜ r ≡ record { work = plainWork Kind.Nothing (answerOf (bytes4 result)); status = Status.Ready } ⌝ }
-{
-    let dpe = four(result);
-    ready_plain(Kind::Nothing, &dpe)
-}
-
 // The command, once length and checksum are fine.
 pub(crate) fn serve_stash(image: &[u32], bytes: &[u8], caller: u32) -> Opened
     requires { ⌜ (length (now image) ≡ imageWords) × (length (now bytes) ≡ stashLength) ⌝ }
-    ensures { λ r. ⌜ r ≡ screenedOpened stashMeasurement (now (image .entry)) (requestOf stashCode (now (bytes .entry)) caller [] false) ⌝ }
+    ensures { λ r. ⌜ r ≡ screenedOpened stashMeasurement (now (image .entry)) (requestOf stashCode (now (bytes .entry)) caller [] false []) ⌝ }
 {
     if image[ATTESTATION_AT] != 1 {
         return declined(DPE_OFF);
@@ -99,9 +101,13 @@ pub(crate) fn serve_stash(image: &[u32], bytes: &[u8], caller: u32) -> Opened
     if !well_formed(image) {
         return refused(NOT_WELL_FORMED);
     }
-    let node = free_index(image);
-    if node < NODES {
-        return accepted(image, bytes, caller, node);
+    let holder = holder_index(image);
+    if NODES <= holder {
+        return declined(DPE_NO_HOLDER);
     }
-    declined(DPE_FULL)
+    let node = free_index(image);
+    if NODES <= node {
+        return declined(DPE_FULL);
+    }
+    accepted(image, bytes, caller, node, holder)
 }

@@ -11,7 +11,7 @@ use opening::works::refused;
 use table::Kind;
 
 pub(crate) fn serve_verify(image: &[u32], verdict: bool) -> Opened
-    ensures { λ r. ⌜ r ≡ screenedOpened verifySignature (now (image .entry)) (requestOf verifyCode [] 0 [] verdict) ⌝ }
+    ensures { λ r. ⌜ r ≡ screenedOpened verifySignature (now (image .entry)) (requestOf verifyCode [] 0 [] verdict []) ⌝ }
 {
     if verdict {
         return ready_plain(Kind::Nothing, &[]);

@@ -30,7 +30,7 @@ Shaped image (refused n) = Unit {0}
 Shaped image (accepted t a) = wellShaped (workAt image t a) ≡ true
 
 -- a work as an opening makes it, where the kind's indices are fine and the answer fits
-opened-shape : (image : List ℕ) (t : Task) (a : List ℕ) → indexOk (factsOf t .kind (treeIn image)) ≡ true → length a ≤ answerMax
+opened-shape : (image : List ℕ) (t : Task) (a : List ℕ) → indexOk (factsOf t .kind (treeIn image)) (factsOf t .values image .node) ≡ true → length a ≤ answerMax
     → wellShaped (workAt image t a) ≡ true
 unfolding wellShaped workAt workWith
 opened-shape image t a i h = rw (i, le-leb 0 (numberOf (factsOf t .kind (treeIn image))) zero-le, le-leb (length a) answerMax h)
@@ -42,7 +42,7 @@ module _ (image : List ℕ) (r : Request) where
   unfolding viewIn
   command-shaped n =
       let law = command-law (r .code) in
-      opened-shape image (commandOf (r .code) .task r) (answerOf (commandOf (r .code) .answer r)) (law .serves (viewIn image) r n .index) (law .short r)
+      opened-shape image (commandOf (r .code) .task r) (answerOf (commandOf (r .code) .answer r)) (law .serves (viewIn image) r n .index image refl) (law .short r)
 
   decline-shaped : (n : ℕ) → Shaped image (declined n)
   unfolding indexOk

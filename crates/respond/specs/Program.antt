@@ -26,7 +26,7 @@ coldImage = coldBooted (zeros imageWords) programBoot
 -- "a code (4 bytes, little endian) and a request", "Fewer than 4 input bytes count as code 0", "caller 0, verdict no, no handoff table". The request is
 -- what follows the first 4 bytes.
 unfoldable pub requestIn : List ℕ → Request
-requestIn input = requestOf (cond (ltb (length input) 4) 0 (le32 input 0)) (drop 4 input) 0 [] false
+requestIn input = requestOf (cond (ltb (length input) 4) 0 (le32 input 0)) (drop 4 input) 0 [] false []
 
 -- what follows the result: the answer, or nothing where the request is refused
 abbrev pub answerBytes : Work → Status → List ℕ

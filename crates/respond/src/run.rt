@@ -26,7 +26,7 @@ pub(crate) fn open(image: &[u32], input: &[u8]) -> Opened
 {
     let none = &input[..0];
     if input.len() < 4 {
-        return open_request(image, 0, none, 0, none, false);
+        return open_request(image, 0, none, 0, none, false, none);
     }
-    open_request(image, read32(input, 0), &input[4..], 0, none, false)
+    open_request(image, read32(input, 0), &input[4..], 0, none, false, none)
 }

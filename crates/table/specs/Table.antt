@@ -1,12 +1,13 @@
 -- The store table (document 01, "Work, one word at a time"): for each kind of work, runs of stores in order. Assumes nothing.
-use Prim.Native.Nat.{ℕ, _+_, _-_, _*_}
+use Prim.Native.Nat.{ℕ, _+_, _-_, _*_, _/_, _%_}
 use mathlib.Core.Bool.{Bool, true, cond, _&&_}
 use mathlib.Core.List.{List, [], _∷_}
 use lib.ListN.{getD}
-use lib.Dec.{ltb}
+use lib.Dec.{leb, ltb}
 use Rattle.layout.specs.Sizes.{nodeCount, nodeWords, registerCount, registerWords, markAt, attestationAt, secretAt, registerAt, nodeAt, currentRegister, journeyRegister, stashRegister, extendable, handleAt, handleWords, currentAt, cumulativeAt, retiredWord}
+use Rattle.layout.specs.Below.{allBelow}
 use Rattle.table.specs.declared.Kind.{Kind}
-use Rattle.table.specs.declared.Kind.the-variants.{Nothing, Disabling, Stash, Update, ColdBoot, Extension}
+use Rattle.table.specs.declared.Kind.the-variants.{Nothing, Disabling, Stash, Update, ColdBoot, Extension, Derive, Replace, Extend, Rotate, Destroy}
 use Rattle.table.specs.declared.StashAt.{StashAt}
 use Rattle.table.specs.declared.Put.{Put}
 
@@ -80,7 +81,24 @@ coldRuns register journey node secret =
 abbrev pub extensionRuns : ℕ → List ℕ → List Run
 extensionRuns r register = one markAt 0 ∷ copy (registerAt r) registerWords register ∷ one markAt 1 ∷ []
 
--- the row of a kind, with the prepared words
+-- the rows of document 02, §5, that store words of one node: "derive the node", "extend current, cumulative", "rotate the handle words"
+abbrev pub partRuns : ℕ → ℕ → ℕ → List ℕ → List Run
+partRuns i from words node = one markAt 0 ∷ copyFrom (nodeAt i + from) words node from ∷ one markAt 1 ∷ []
+
+-- "derive the node, then without retain the parent's handle words"
+abbrev pub replaceRuns : StashAt → List ℕ → List Run
+replaceRuns s node =
+    one markAt 0 ∷ copy (nodeAt (s .node)) nodeWords node ∷ fill (nodeAt (s .holder) + handleAt) handleWords retiredWord ∷ one markAt 1 ∷ []
+
+-- the first nodes of a list, one after another, all zero
+abbrev pub clear : ℕ → List ℕ → Run
+clear count freed = record { count = nodeWords * count; store = λ k. put (nodeAt (getD freed (k / nodeWords) 0) + k % nodeWords) 0 }
+
+-- "destroy the freed nodes, upwards"; more nodes than there are have no row
+abbrev pub destroyRuns : ℕ → List ℕ → List Run
+destroyRuns count freed = cond (leb count nodeCount) (one markAt 0 ∷ clear count freed ∷ one markAt 1 ∷ []) []
+
+-- the row of a kind, with the prepared words: those of a destroy's node are the indices of the nodes that it frees
 abbrev pub runsFor : Kind → List ℕ → List ℕ → List ℕ → List ℕ → List Run
 runsFor Nothing register journey node secret = []
 runsFor Disabling register journey node secret = disablingRuns
@@ -88,6 +106,11 @@ runsFor (Stash s) register journey node secret = stashRuns s register node
 runsFor (Update root) register journey node secret = updateRuns root register journey node secret
 runsFor ColdBoot register journey node secret = coldRuns register journey node secret
 runsFor (Extension r) register journey node secret = extensionRuns r register
+runsFor (Derive i) register journey node secret = partRuns i 0 nodeWords node
+runsFor (Replace s) register journey node secret = replaceRuns s node
+runsFor (Extend i) register journey node secret = partRuns i currentAt (2 * registerWords) node
+runsFor (Rotate i) register journey node secret = partRuns i handleAt handleWords node
+runsFor (Destroy count) register journey node secret = destroyRuns count node
 
 -- ---- number, address and value
 
@@ -104,16 +127,22 @@ putFrom n (r ∷ rs) k = cond (ltb k (n + r .count)) (r .store (k - n)) (putFrom
 unfoldable pub numberOf : Kind → ℕ
 numberOf k = total (runsFor k [] [] [] [])
 
--- no index of a kind is beyond the nodes, and no register outside those that may be extended
-unfoldable pub indexOk : Kind → Bool
-indexOk Nothing = true
-indexOk Disabling = true
-indexOk (Stash s) = ltb (s .node) nodeCount && ltb (s .holder) nodeCount
-indexOk (Update root) = ltb root nodeCount
-indexOk ColdBoot = true
-indexOk (Extension r) = extendable r
+-- no index of a kind is beyond the nodes, and no register outside those that may be extended; a destroy frees no more nodes than there are, and
+-- no index of those that count is beyond them
+unfoldable pub indexOk : Kind → (node : List ℕ) → Bool
+indexOk Nothing node = true
+indexOk Disabling node = true
+indexOk (Stash s) node = ltb (s .node) nodeCount && ltb (s .holder) nodeCount
+indexOk (Update root) node = ltb root nodeCount
+indexOk ColdBoot node = true
+indexOk (Extension r) node = extendable r
+indexOk (Derive i) node = ltb i nodeCount
+indexOk (Replace s) node = ltb (s .node) nodeCount && ltb (s .holder) nodeCount
+indexOk (Extend i) node = ltb i nodeCount
+indexOk (Rotate i) node = ltb i nodeCount
+indexOk (Destroy count) node = leb count nodeCount && allBelow count (λ j. ltb (getD node j 0) nodeCount)
 
 -- store k of a kind, with the prepared words; a kind with an index that is not fine has none, and neither is there one past the number
 unfoldable pub storeAt : Kind → ℕ → List ℕ → List ℕ → List ℕ → List ℕ → Put
 storeAt kind k register journey node secret =
-    cond (indexOk kind && ltb k (numberOf kind)) (putFrom 0 (runsFor kind register journey node secret) k) (put 0 0)
+    cond (indexOk kind node && ltb k (numberOf kind)) (putFrom 0 (runsFor kind register journey node secret) k) (put 0 0)

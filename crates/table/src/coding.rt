@@ -5,7 +5,7 @@ use crate::Kind;
 use crate::StashAt;
 
 // How many kinds there are.
-const KINDS: u32 = 6;
+const KINDS: u32 = 11;
 
 // A kind's number and its two indices; one that it does not have is 0.
 pub struct Coded {
@@ -48,6 +48,31 @@ pub fn encode(kind: Kind) -> Coded
             first: register,
             second: 0,
         },
+        Kind::Derive(i) => Coded {
+            number: 6,
+            first: i,
+            second: 0,
+        },
+        Kind::Replace(at) => Coded {
+            number: 7,
+            first: at.node,
+            second: at.holder,
+        },
+        Kind::Extend(i) => Coded {
+            number: 8,
+            first: i,
+            second: 0,
+        },
+        Kind::Rotate(i) => Coded {
+            number: 9,
+            first: i,
+            second: 0,
+        },
+        Kind::Destroy(count) => Coded {
+            number: 10,
+            first: count,
+            second: 0,
+        },
     }
 }
 
@@ -62,15 +87,21 @@ pub fn decode(coded: Coded) -> Kind
     ensures { λ r. ⌜ r ≡ kindOf coded ⌝ }
 {
     let number = coded.number;
+    let at = StashAt {
+        node: coded.first,
+        holder: coded.second,
+    };
     match number {
         1 => Kind::Disabling,
-        2 => Kind::Stash(StashAt {
-            node: coded.first,
-            holder: coded.second,
-        }),
+        2 => Kind::Stash(at),
         3 => Kind::Update(coded.first),
         4 => Kind::ColdBoot,
         5 => Kind::Extension(coded.first),
+        6 => Kind::Derive(coded.first),
+        7 => Kind::Replace(at),
+        8 => Kind::Extend(coded.first),
+        9 => Kind::Rotate(coded.first),
+        10 => Kind::Destroy(coded.first),
         _ => Kind::Nothing,
     }
 }

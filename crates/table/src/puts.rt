@@ -3,9 +3,14 @@
 // Each function is the table's row from left to right, a test for each field: k below the field's
 // end is a store of that field.
 ghost use mathlib.Core.Path.{_≡_};
-ghost use Prim.Native.Nat.{_≤_, _<_};
-ghost use Rattle.layout.specs.Sizes.{nodeCount, extendLast, imageWords};
-ghost use Rattle.table.specs.Table.{total, putFrom, stashRuns, disablingRuns, updateRuns, coldRuns, extensionRuns};
+ghost use mathlib.Core.Bool.{true};
+ghost use Prim.Native.Nat.{_+_, _≤_, _<_};
+ghost use lib.Dec.{ltb};
+ghost use lib.ListN.{getD};
+ghost use Rattle.layout.specs.Below.{allBelow};
+ghost use Rattle.layout.specs.Sizes.{nodeCount, nodeWords, extendLast, imageWords};
+ghost use Rattle.table.specs.Table.{total, putFrom, stashRuns, disablingRuns, updateRuns, coldRuns, extensionRuns, partRuns, replaceRuns, destroyRuns, numberOf};
+ghost use Rattle.table.specs.declared.Kind.the-variants.{Destroy};
 use crate::Put;
 use crate::StashAt;
 use layout::ATTESTATION_AT;
@@ -16,6 +21,7 @@ use layout::HANDLE_WORDS;
 use layout::IMAGE_WORDS;
 use layout::MARK_AT;
 use layout::NODE_WORDS;
+use layout::NODES;
 use layout::NODES_AT;
 use layout::PCR2_AT;
 use layout::PCR3_AT;
@@ -294,6 +300,115 @@ pub(crate) fn extension_put<'a>(at: usize, register: &'a [u32], k: usize) -> Put
         return Put {
             address: REGISTERS_AT + REGISTER_WORDS * at + (k - MARK_END),
             value: word(register, k - MARK_END),
+        };
+    }
+    Put {
+        address: MARK_AT,
+        value: DONE,
+    }
+}
+
+// Words of one node, as many as `words` from its word `from` on: mark 0; the words; mark 1. A derived child's
+// node, an extend's current and cumulative, a rotate's handle.
+pub(crate) const DERIVE_STORES: usize = MARK_END + NODE_WORDS + 1;
+
+pub(crate) const EXTEND_WORDS: usize = 2 * REGISTER_WORDS;
+
+pub(crate) const EXTEND_STORES: usize = MARK_END + EXTEND_WORDS + 1;
+
+pub(crate) const ROTATE_STORES: usize = MARK_END + HANDLE_WORDS + 1;
+
+pub(crate) fn part_put<'a>(i: usize, from: usize, words: usize, node: &'a [u32], k: usize) -> Put
+    requires { ⌜ i < nodeCount ⌝ }
+    requires { ⌜ from + words ≤ nodeWords ⌝ }
+    requires { ⌜ k < total (partRuns i from words (now node)) ⌝ }
+    ensures { λ r. ⌜ r ≡ putFrom 0 (partRuns i from words (now (node .entry))) k ⌝ }
+    ensures { λ r. ⌜ r .address < imageWords ⌝ }
+{
+    if k < MARK_END {
+        return Put {
+            address: MARK_AT,
+            value: UNFINISHED,
+        };
+    }
+    if k < MARK_END + words {
+        return Put {
+            address: NODES_AT + NODE_WORDS * i + from + (k - MARK_END),
+            value: word(node, from + (k - MARK_END)),
+        };
+    }
+    Put {
+        address: MARK_AT,
+        value: DONE,
+    }
+}
+
+// Derive without retain: mark 0; the new node; the parent's five handle words; mark 1.
+const REPLACE_NODE_END: usize = MARK_END + NODE_WORDS;
+
+const REPLACE_HANDLE_END: usize = REPLACE_NODE_END + HANDLE_WORDS;
+
+pub(crate) const REPLACE_STORES: usize = REPLACE_HANDLE_END + 1;
+
+pub(crate) fn replace_put<'a>(at: StashAt, node: &'a [u32], k: usize) -> Put
+    requires { ⌜ at .node < nodeCount ⌝ }
+    requires { ⌜ at .holder < nodeCount ⌝ }
+    requires { ⌜ k < total (replaceRuns at (now node)) ⌝ }
+    ensures { λ r. ⌜ r ≡ putFrom 0 (replaceRuns at (now (node .entry))) k ⌝ }
+    ensures { λ r. ⌜ r .address < imageWords ⌝ }
+{
+    if k < MARK_END {
+        return Put {
+            address: MARK_AT,
+            value: UNFINISHED,
+        };
+    }
+    if k < REPLACE_NODE_END {
+        return Put {
+            address: NODES_AT + NODE_WORDS * at.node + (k - MARK_END),
+            value: word(node, k - MARK_END),
+        };
+    }
+    if k < REPLACE_HANDLE_END {
+        return Put {
+            address: NODES_AT + NODE_WORDS * at.holder + HANDLE_AT + (k - REPLACE_NODE_END),
+            value: RETIRED_WORD,
+        };
+    }
+    Put {
+        address: MARK_AT,
+        value: DONE,
+    }
+}
+
+// Destroy: mark 0; the freed nodes, upwards, all zero; mark 1. More nodes than there are have no stores.
+pub(crate) fn destroy_stores(count: usize) -> usize
+    ensures { λ r. ⌜ r ≡ numberOf (Destroy count) ⌝ }
+{
+    if count <= NODES {
+        return MARK_END + NODE_WORDS * count + 1;
+    }
+    0
+}
+
+pub(crate) fn destroy_put<'a>(count: usize, freed: &'a [u32], k: usize) -> Put
+    requires { ⌜ count ≤ nodeCount ⌝ }
+    requires { ⌜ allBelow count (λ j. ltb (getD (now freed) j 0) nodeCount) ≡ true ⌝ }
+    requires { ⌜ k < numberOf (Destroy count) ⌝ }
+    ensures { λ r. ⌜ r ≡ putFrom 0 (destroyRuns count (now (freed .entry))) k ⌝ }
+    ensures { λ r. ⌜ r .address < imageWords ⌝ }
+{
+    if k < MARK_END {
+        return Put {
+            address: MARK_AT,
+            value: UNFINISHED,
+        };
+    }
+    if k < MARK_END + NODE_WORDS * count {
+        let i = word(freed, (k - MARK_END) / NODE_WORDS) as usize;
+        return Put {
+            address: NODES_AT + NODE_WORDS * i + (k - MARK_END) % NODE_WORDS,
+            value: 0,
         };
     }
     Put {

@@ -3,3 +3,4 @@ pub mod Tree
 pub mod Nodes
 pub mod Kinds
 pub mod Known
+pub mod Statements

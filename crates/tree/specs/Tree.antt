@@ -1,7 +1,7 @@
 -- The nodes as a tree: what the rules see of each place for a node, "well formed" (document 01, "What the unit holds"), and what is found there. All is
 -- stated over the number n of places. Assumes nothing.
 use Prim.Native.Nat.{ℕ, zero, suc, _-_}
-use mathlib.Core.List.{List}
+use mathlib.Core.List.{List, [], _∷_}
 use mathlib.Core.Bool.{Bool, true, false, cond, not, _&&_, _||_}
 use lib.Dec.{ltb, eqb}
 use lib.ListN.{getD, replicate}
@@ -29,7 +29,7 @@ Tree = ℕ → Place
 
 -- ---- handles
 
--- the two handles: zero bytes, "the default context"; bytes 0xFF, retired
+-- two handles of their own: zero bytes, "the default context"; bytes 0xFF, retired. Any handle but the retired one is live (document 02, §5)
 abbrev pub defaultWords : List ℕ
 defaultWords = replicate handleWords 0
 
@@ -57,13 +57,17 @@ rootOk p = eqb (p .flags) internalFlag && eqb (p .type) rootType
 unfoldable pub childOk : ℕ → Tree → ℕ → Bool
 childOk n t i = eqb (t i .flags) 0 && (ltb (t i .parent) n && t (t i .parent) .used)
 
--- of the handles of used nodes: each is one of the two
-unfoldable pub handleOk : Place → Bool
-handleOk p = sameHandle (p .handle) defaultWords || sameHandle (p .handle) retiredWords
-
 -- a place by itself: "a free node is all zero", so what is not used is blank
 unfoldable pub placeOk : ℕ → Tree → ℕ → Bool
-placeOk n t i = cond (t i .used) (handleOk (t i) && cond (isRoot (t i)) (rootOk (t i)) (childOk n t i)) (t i .blank)
+placeOk n t i = cond (t i .used) (cond (isRoot (t i)) (rootOk (t i)) (childOk n t i)) (t i .blank)
+
+-- "distinct live handles and at most one default holder" (document 02, §5): two used nodes do not share a live handle, and the default one is live
+unfoldable pub clash : Tree → ℕ → ℕ → Bool
+clash t i j = t i .used && (t j .used && (not (sameHandle (t i .handle) retiredWords) && sameHandle (t i .handle) (t j .handle)))
+
+-- node i and those below it
+unfoldable pub apartBelow : Tree → ℕ → Bool
+apartBelow t i = allBelow i (λ j. not (clash t i j))
 
 -- "the parents lead to the root in at most" n - 1 "steps": from node i in at most s steps
 unfoldable pub leads : ℕ → Tree → ℕ → ℕ → Bool
@@ -73,11 +77,11 @@ leads n t (suc s) i = isRoot (t i) || (ltb (t i .parent) n && leads n t s (t i .
 unfoldable pub leadsIfUsed : ℕ → Tree → ℕ → Bool
 leadsIfUsed n t i = cond (t i .used) (leads n t (n - 1) i) true
 
--- "well formed": each place by itself, one root, one holder, and every way leads to the root
+-- "well formed": each place by itself, one root, distinct live handles, and every way leads to the root
 unfoldable pub wellFormed : ℕ → Tree → Bool
 wellFormed n t =
     allBelow n (placeOk n t)
-    && (eqb (countBelow n (λ i. isRoot (t i))) 1 && (eqb (countBelow n (λ i. hasHandle defaultWords (t i))) 1 && allBelow n (leadsIfUsed n t)))
+    && (eqb (countBelow n (λ i. isRoot (t i))) 1 && (allBelow n (apartBelow t) && allBelow n (leadsIfUsed n t)))
 
 -- ---- what is found in a tree; n where there is none
 
@@ -91,3 +95,28 @@ nodeWith n t h = firstBelow n (λ i. hasHandle h (t i))
 -- "the lowest free node"
 unfoldable pub lowestFree : ℕ → Tree → ℕ
 lowestFree n t = firstBelow n (λ i. not (t i .used))
+
+-- ---- children, and what a destroy frees (document 02, §5)
+
+unfoldable pub isChildOf : ℕ → Place → Bool
+isChildOf i p = p .used && eqb (p .parent) i
+
+-- no node is a child of node i; none but node b is
+unfoldable pub childless : ℕ → Tree → ℕ → Bool
+childless n t i = allBelow n (λ j. not (isChildOf i (t j)))
+
+unfoldable pub childlessBut : ℕ → Tree → ℕ → ℕ → Bool
+childlessBut n t b i = allBelow n (λ j. eqb j b || not (isChildOf i (t j)))
+
+-- "any retired ancestor left childless except the root": the parent p of a freed node b
+unfoldable pub goesToo : ℕ → Tree → ℕ → ℕ → Bool
+goesToo n t b p = ltb p n && (not (isRoot (t p)) && (hasHandle retiredWords (t p) && childlessBut n t b p))
+
+-- from node i upwards, at most s nodes
+unfoldable pub freedWithin : ℕ → Tree → ℕ → ℕ → List ℕ
+freedWithin n t zero i = []
+freedWithin n t (suc s) i = i ∷ cond (goesToo n t i (t i .parent)) (freedWithin n t s (t i .parent)) []
+
+-- the nodes that a destroy of node i frees, in the order of its stores: fewer than n, since the root stays
+unfoldable pub freedBy : ℕ → Tree → ℕ → List ℕ
+freedBy n t i = cond (ltb i n) (freedWithin n t (n - 1) i) []

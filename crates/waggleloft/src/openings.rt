@@ -16,11 +16,12 @@ pub extern "C" fn waggleloft_open_request(
     caller: u32,
     handoff: &[u8],
     verdict: bool,
+    fresh: &[u8],
     work: &mut [u32],
 ) -> u32
-    ensures { λ r. ⌜ OpensAs (now (work .entry)) (now (work .exit)) r (openRequest (now (image .entry)) (requestOf code (now (bytes .entry)) caller (now (handoff .entry)) verdict)) ⌝ }
+    ensures { λ r. ⌜ OpensAs (now (work .entry)) (now (work .exit)) r (openRequest (now (image .entry)) (requestOf code (now (bytes .entry)) caller (now (handoff .entry)) verdict (now (fresh .entry)))) ⌝ }
 {
-    let opened = open_request(image, code, bytes, caller, handoff, verdict);
+    let opened = open_request(image, code, bytes, caller, handoff, verdict, fresh);
     open_into(opened, work)
 }
 

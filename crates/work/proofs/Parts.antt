@@ -9,7 +9,7 @@ use Rattle.work.specs.Parts.{storing, standing}
 use Rattle.work.specs.declared.Work.{Work}
 
 abbrev pub standingOf : Work → Work
-standingOf w = standing (w .kind) (w .position) (w .«answer_len»)
+standingOf w = standing (w .kind) (w .position) (w .«answer_len») (w .node)
 
 abbrev pub storingOf : Work → Work
 storingOf w = storing (w .kind) (w .position) (w .«answer_len») (w .register) (w .journey) (w .node) (w .secret)

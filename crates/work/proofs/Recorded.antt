@@ -8,9 +8,10 @@ use borrow.Author.Tests.{le-ltb}
 use lib.Dec.{eqb}
 use lib.ListN.{length}
 use Rattle.layout.specs.Refusals.{storesLeft}
-use Rattle.table.specs.Table.{numberOf}
+use Rattle.table.specs.Table.{numberOf, indexOk}
 use Rattle.table.specs.declared.Kind.{Kind}
-use Rattle.table.specs.declared.Kind.the-variants.{Nothing, Disabling, Stash, Update, ColdBoot, Extension}
+use Rattle.table.specs.declared.Kind.the-variants.{Nothing, Disabling, Stash, Update, ColdBoot, Extension, Derive, Replace, Extend, Rotate, Destroy}
+use Rattle.table.proofs.ByKind.{destroy-count, number-destroy}
 use Rattle.journal.specs.Entries.{Entry, entryBytes}
 use Rattle.journal_bytes.specs.Results.{takenNumber, takenResult, takenBuffer}
 use Rattle.journal_bytes.specs.declared.write.Taken.{Taken}
@@ -19,15 +20,24 @@ use Rattle.work.specs.Parts.{standing, recording}
 use Rattle.work.specs.Recorded.{entriesFor, entriesOf, recordedBytes, entryNumber, entryResult, entryBuffer}
 use Rattle.work.specs.declared.Work.{Work}
 
--- a kind with nothing to store has no entry
-pub no-stores : (k : Kind) (node inputs : List ℕ) → numberOf k ≡ 0 → entriesFor k node inputs ≡ []
+-- a destroy has its two marks to store
+destroys : (count : ℕ) (node : List ℕ) → indexOk (Destroy count) node ≡ true → numberOf (Destroy count) ≡ 0 → ⊥
+destroys count node i h = omega (arith, number-destroy count (destroy-count count node i))
+
+-- a kind with nothing to store has no entry; of more nodes than there are, which have no stores, no work is well shaped
+pub no-stores : (k : Kind) (node inputs : List ℕ) → indexOk k node ≡ true → numberOf k ≡ 0 → entriesFor k node inputs ≡ []
 unfolding numberOf entriesFor
-no-stores Nothing node inputs h = refl
-no-stores Disabling node inputs h = absurd (omega arith)
-no-stores (Stash at) node inputs h = absurd (omega arith)
-no-stores (Update root) node inputs h = absurd (omega arith)
-no-stores ColdBoot node inputs h = absurd (omega arith)
-no-stores (Extension r) node inputs h = absurd (omega arith)
+no-stores Nothing node inputs i h = refl
+no-stores Disabling node inputs i h = absurd (omega arith)
+no-stores (Stash at) node inputs i h = absurd (omega arith)
+no-stores (Update root) node inputs i h = absurd (omega arith)
+no-stores ColdBoot node inputs i h = absurd (omega arith)
+no-stores (Extension r) node inputs i h = absurd (omega arith)
+no-stores (Derive x) node inputs i h = absurd (omega arith)
+no-stores (Replace at) node inputs i h = absurd (omega arith)
+no-stores (Extend x) node inputs i h = absurd (omega arith)
+no-stores (Rotate x) node inputs i h = absurd (omega arith)
+no-stores (Destroy count) node inputs i h = absurd (destroys count node i h)
 
 -- ---- one answer for each test
 
@@ -62,7 +72,7 @@ module _ (w : Work) (buffer : List ℕ) where
 
 -- ---- the parts
 
-pub finished-recording : (k : Kind) (p n : ℕ) (node inputs : List ℕ) → finished (standing k p n) ≡ finished (recording k p n node inputs)
+pub finished-recording : (k : Kind) (p n : ℕ) (node inputs : List ℕ) → finished (standing k p n node) ≡ finished (recording k p n node inputs)
 unfolding finished wellShaped
 finished-recording k p n node inputs = refl
 

@@ -13,13 +13,13 @@ use Rattle.work.specs.Entries.{wellShaped, leftOf, finished}
 use Rattle.table.proofs.ByKind.{number-most}
 
 module _ (w : Work) (shaped : wellShaped w ≡ true) where
-  pub shaped-index : indexOk (w .kind) ≡ true
+  pub shaped-index : indexOk (w .kind) (w .node) ≡ true
   unfolding wellShaped
-  shaped-index = and-left (indexOk (w .kind)) (leb (w .«answer_len») answerMax && leb (w .position) (numberOf (w .kind))) shaped
+  shaped-index = and-left (indexOk (w .kind) (w .node)) (leb (w .«answer_len») answerMax && leb (w .position) (numberOf (w .kind))) shaped
 
   bounds : (leb (w .«answer_len») answerMax && leb (w .position) (numberOf (w .kind))) ≡ true
   unfolding wellShaped
-  bounds = and-right (indexOk (w .kind)) (leb (w .«answer_len») answerMax && leb (w .position) (numberOf (w .kind))) shaped
+  bounds = and-right (indexOk (w .kind) (w .node)) (leb (w .«answer_len») answerMax && leb (w .position) (numberOf (w .kind))) shaped
 
   pub shaped-answer : w .«answer_len» ≤ answerMax
   shaped-answer = leb-true (w .«answer_len») answerMax (and-left (leb (w .«answer_len») answerMax) (leb (w .position) (numberOf (w .kind))) bounds)

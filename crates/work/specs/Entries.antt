@@ -25,7 +25,7 @@ putOf w = putFrom 0 (runsOf w) (w .position)
 
 -- document 01's "well shaped": indices below the number of nodes, an answer not longer than the longest, a position within the number of stores
 unfoldable pub wellShaped : Work → Bool
-wellShaped w = indexOk (w .kind) && (leb (w .«answer_len») answerMax && leb (w .position) (numberOf (w .kind)))
+wellShaped w = indexOk (w .kind) (w .node) && (leb (w .«answer_len») answerMax && leb (w .position) (numberOf (w .kind)))
 
 -- the number of stores minus those made; a work that is not well shaped "reports 0 left"
 unfoldable pub leftOf : Work → ℕ

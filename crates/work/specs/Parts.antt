@@ -19,9 +19,9 @@ storing kind position len register journey node secret =
       inputs = [];
     }
 
--- the same with no prepared words: the stores left do not depend on them
-abbrev pub standing : Kind → ℕ → ℕ → Work
-standing kind position len = storing kind position len [] [] [] []
+-- the same with the node's words alone, which hold a destroy's indices: the stores left do not depend on the others
+abbrev pub standing : Kind → ℕ → ℕ → List ℕ → Work
+standing kind position len node = storing kind position len [] [] node []
 
 -- what an entry's taking looks at: kind, position, answer's length, the new node and the inputs
 abbrev pub recording : Kind → ℕ → ℕ → List ℕ → List ℕ → Work

@@ -7,9 +7,9 @@ use lib.ListN.{length, getD, take, drop}
 use Rattle.layout.specs.Sizes.{typeAt, svnAt, localityAt}
 use Rattle.layout.specs.Refusals.{storesLeft}
 use Rattle.table.specs.declared.Kind.{Kind}
-use Rattle.table.specs.declared.Kind.the-variants.{Nothing, Disabling, Stash, Update, ColdBoot, Extension}
-use Rattle.journal.specs.Entries.{Entry, coldBoot, update, disabling, stash, extension, journalBytes}
-use Rattle.journal_bytes.specs.Results.{takenNumber, takenBuffer}
+use Rattle.table.specs.declared.Kind.the-variants.{Nothing, Disabling, Stash, Update, ColdBoot, Extension, Derive, Replace, Extend, Rotate, Destroy}
+use Rattle.journal.specs.Entries.{Entry, coldBoot, update, disabling, stash, extension, derive, extend, rotate, destroy, journalBytes}
+use Rattle.journal_bytes.specs.Results.{handlePart, freshPart, takenNumber, takenBuffer}
 use Rattle.journal_bytes.specs.declared.write.Taken.{Taken}
 use Rattle.work.specs.Entries.{finished}
 use Rattle.work.specs.declared.Work.{Work}
@@ -23,15 +23,33 @@ firstDigest inputs = take 48 inputs
 abbrev pub secondDigest : List ℕ → List ℕ
 secondDigest inputs = take 48 (drop 48 inputs)
 
+-- among a tree command's: its handle and its fresh handle, where a second digest would stand
+abbrev pub handleTold : List ℕ → List ℕ
+handleTold inputs = handlePart (secondDigest inputs)
+
+abbrev pub freshTold : List ℕ → List ℕ
+freshTold inputs = freshPart (secondDigest inputs)
+
+-- the caller of a stash or a tree command: it stands in the node's words, at the locality's place, whatever the others are
+abbrev pub callerTold : (node : List ℕ) → ℕ
+callerTold node = getD node localityAt 0
+
 -- "a boot's digests, a stash's type, digest, svn and caller, or an extension's register and digest; the secret is never written": what the
 -- kind, the new node and the inputs of a work tell; none where nothing is stored
 unfoldable pub entriesFor : Kind → (node inputs : List ℕ) → List Entry
 entriesFor Nothing node inputs = []
 entriesFor Disabling node inputs = disabling ∷ []
-entriesFor (Stash at) node inputs = stash (getD node typeAt 0) (firstDigest inputs) (getD node svnAt 0) (getD node localityAt 0) ∷ []
+entriesFor (Stash at) node inputs = stash (getD node typeAt 0) (firstDigest inputs) (getD node svnAt 0) (callerTold node) ∷ []
 entriesFor (Update root) node inputs = update (firstDigest inputs) (secondDigest inputs) ∷ []
 entriesFor ColdBoot node inputs = coldBoot (firstDigest inputs) (secondDigest inputs) ∷ []
 entriesFor (Extension register) node inputs = extension register (firstDigest inputs) ∷ []
+entriesFor (Derive i) node inputs =
+    derive (handleTold inputs) 1 (getD node typeAt 0) (firstDigest inputs) (freshTold inputs) (callerTold node) ∷ []
+entriesFor (Replace at) node inputs =
+    derive (handleTold inputs) 0 (getD node typeAt 0) (firstDigest inputs) (freshTold inputs) (callerTold node) ∷ []
+entriesFor (Extend i) node inputs = extend (handleTold inputs) (firstDigest inputs) (callerTold node) ∷ []
+entriesFor (Rotate i) node inputs = rotate (handleTold inputs) (freshTold inputs) (callerTold node) ∷ []
+entriesFor (Destroy count) node inputs = destroy (handleTold inputs) (callerTold node) ∷ []
 
 unfoldable pub entriesOf : Work → List Entry
 entriesOf w = entriesFor (w .kind) (w .node) (w .inputs)

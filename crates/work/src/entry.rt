@@ -23,19 +23,26 @@ use slices::strings::bytes_of;
 use table::Kind;
 use table::number;
 
+// Whether a derive keeps its parent's handle.
+const RETAINED: u32 = 1;
+
+const REPLACED: u32 = 0;
+
 fn parts(
     kind: EntryKind,
     value: u32,
     svn: u32,
+    retain: u32,
     caller: u32,
     inputs: [u8; INPUT_BYTES],
 ) -> EntryParts
-    ensures { λ r. ⌜ r ≡ partsWith kind value svn caller (firstDigest inputs) (secondDigest inputs) ⌝ }
+    ensures { λ r. ⌜ r ≡ partsWith kind value svn retain caller (firstDigest inputs) (secondDigest inputs) ⌝ }
 {
     EntryParts {
         kind,
         value,
         svn,
+        retain,
         caller,
         first: bytes_of(&inputs, 0),
         second: bytes_of(&inputs, DIGEST_BYTES),
@@ -44,22 +51,30 @@ fn parts(
 
 // The entry of a kind of work that has something to store.
 fn entry_of(kind: Kind, node: &[u32], inputs: [u8; INPUT_BYTES]) -> EntryParts
-    requires { ⌜ (indexOk kind ≡ true) × (0 < numberOf kind) ⌝ }
+    requires { ⌜ (indexOk kind (now node) ≡ true) × (0 < numberOf kind) ⌝ }
     ensures { λ r. ⌜ entriesFor kind (now (node .entry)) inputs ≡ entryIn r ∷ [] ⌝ }
 {
+    let of_type = word(node, TYPE_AT);
+    let caller = word(node, LOCALITY_AT);
     match kind {
-        Kind::Nothing => parts(EntryKind::Disabling, 0, 0, 0, inputs),
-        Kind::Disabling => parts(EntryKind::Disabling, 0, 0, 0, inputs),
+        Kind::Nothing => parts(EntryKind::Disabling, 0, 0, 0, 0, inputs),
+        Kind::Disabling => parts(EntryKind::Disabling, 0, 0, 0, 0, inputs),
         Kind::Stash(_) => parts(
             EntryKind::Stash,
-            word(node, TYPE_AT),
+            of_type,
             word(node, SVN_AT),
-            word(node, LOCALITY_AT),
+            0,
+            caller,
             inputs,
         ),
-        Kind::Update(_) => parts(EntryKind::Update, 0, 0, 0, inputs),
-        Kind::ColdBoot => parts(EntryKind::ColdBoot, 0, 0, 0, inputs),
-        Kind::Extension(register) => parts(EntryKind::Extension, register as u32, 0, 0, inputs),
+        Kind::Update(_) => parts(EntryKind::Update, 0, 0, 0, 0, inputs),
+        Kind::ColdBoot => parts(EntryKind::ColdBoot, 0, 0, 0, 0, inputs),
+        Kind::Extension(register) => parts(EntryKind::Extension, register as u32, 0, 0, 0, inputs),
+        Kind::Derive(_) => parts(EntryKind::Derive, of_type, 0, RETAINED, caller, inputs),
+        Kind::Replace(_) => parts(EntryKind::Derive, of_type, 0, REPLACED, caller, inputs),
+        Kind::Extend(_) => parts(EntryKind::Extend, 0, 0, 0, caller, inputs),
+        Kind::Rotate(_) => parts(EntryKind::Rotate, 0, 0, 0, caller, inputs),
+        Kind::Destroy(_) => parts(EntryKind::Destroy, 0, 0, 0, caller, inputs),
     }
 }
 
@@ -76,7 +91,7 @@ pub fn take(
     ensures { λ r. ⌜ r ≡ entryResult (recording kind position «answer_len» (now (node .entry)) inputs) (now (buffer .entry)) ⌝ }
     ensures { λ r. ⌜ now (buffer .exit) ≡ entryBuffer (recording kind position «answer_len» (now (node .entry)) inputs) (now (buffer .entry)) ⌝ }
 {
-    if !finished(kind, position, answer_len) {
+    if !finished(kind, position, answer_len, node) {
         return Taken {
             number: STORES_LEFT,
             written: 0,

@@ -17,9 +17,11 @@ use layout::refusals::SHORT_BUFFER;
 use layout::refusals::STORES_LEFT;
 use table::Kind;
 
-// `register` is PCR31 of a stash and PCR2 of a boot, `journey` PCR3 of a boot, `node` a stash's new
-// node or a boot's root. `position` counts the stores made. `inputs` are a boot's two digests, or the
-// digest of a stash or an extension and zeros.
+// `register` is PCR31 of a stash and PCR2 of a boot, `journey` PCR3 of a boot, `node` the new node of a stash
+// or a derived child, a boot's root, or the node of an extend or a rotate as it will be; a destroy has its
+// indices there, and every tree command its caller in the locality's word. `position` counts the stores made.
+// `inputs` are a boot's two digests, or the one digest and zeros; a tree command has its handle and its fresh
+// one behind the first digest.
 pub struct Work {
     pub kind: Kind,
     pub position: usize,
@@ -60,7 +62,7 @@ impl Work {
         ensures { λ r. ⌜ r ≡ leftOf self ⌝ }
     {
         let kind = self.kind;
-        lent::left(kind, self.position, self.answer_len)
+        lent::left(kind, self.position, self.answer_len, &self.node)
     }
 
     // The next store into the image; its number. It lends the prepared words alone, so that the answer's
@@ -105,7 +107,7 @@ impl Work {
         ensures { λ r. ⌜ r ≡ finished self ⌝ }
     {
         let kind = self.kind;
-        lent::finished(kind, self.position, self.answer_len)
+        lent::finished(kind, self.position, self.answer_len, &self.node)
     }
 
     // The answer into the front of the buffer. Refused, with nothing written: 7, stores left or not

@@ -113,24 +113,121 @@ impl Unit {
         self
     }
 
-    pub fn stash(mut self, kind: &[u8; 4], digest: u8, svn: u32, caller: u32) -> Self {
+    pub fn stash(self, kind: &[u8; 4], digest: u8, svn: u32, caller: u32) -> Self {
+        let place = self.used;
+        self.stash_at(place - 1, place, (kind, digest, svn, caller))
+    }
+
+    /// A stash that takes this node below that holder of the default handle.
+    pub fn stash_at(
+        mut self,
+        holder: usize,
+        place: usize,
+        (kind, digest, svn, caller): (&[u8; 4], u8, u32, u32),
+    ) -> Self {
+        assert_eq!(self.handle_of(holder), [0; 20]);
         let (kind, digest) = (u32::from_le_bytes(*kind), [digest; 48]);
         self.journal.push(4);
         self.journal.extend(number(kind));
         self.journal.extend(digest);
         self.journal.extend(number(svn));
         self.journal.extend(number(caller));
-        let at = 400 + 35 * self.used;
         let pcr31 = extended(&self.get(388), &digest);
         self.put(388, &pcr31);
-        self.image[at - 35 + 2..at - 35 + 7].fill(u32::MAX);
-        self.image[at] = (self.used as u32 - 1) << 16 | 1;
-        self.put(at + 8, &digest);
-        self.put(at + 20, &extended(&ZERO, &digest));
+        self.put_handle(holder, [0xFF; 20]);
+        self.put_node(place, holder, kind, &digest, caller);
+        self.image[400 + 35 * place + 34] = svn;
+        self.used += 1;
+        self
+    }
+
+    // ---- tree commands: the test says which nodes they are about
+
+    pub fn handle_of(&self, place: usize) -> [u8; 20] {
+        let at = 400 + 35 * place + 2;
+        let words = self.image[at..at + 5].iter();
+        let bytes: Vec<u8> = words.flat_map(|word| word.to_le_bytes()).collect();
+        bytes.try_into().expect("20 bytes")
+    }
+
+    pub fn put_handle(&mut self, place: usize, handle: [u8; 20]) {
+        for (i, four) in handle.chunks_exact(4).enumerate() {
+            let word = u32::from_le_bytes(four.try_into().expect("four bytes"));
+            self.image[400 + 35 * place + 2 + i] = word;
+        }
+    }
+
+    fn locality(&self, place: usize) -> u32 {
+        self.image[400 + 35 * place + 33]
+    }
+
+    /// A node as stash and derive make it, with the default handle.
+    fn put_node(&mut self, place: usize, above: usize, kind: u32, digest: &Digest, caller: u32) {
+        let at = 400 + 35 * place;
+        assert_eq!(self.image[at..at + 35], [0; 35], "node {place} is free");
+        self.image[at] = (above as u32) << 16 | 1;
+        self.put(at + 8, digest);
+        self.put(at + 20, &extended(&ZERO, digest));
         self.image[at + 32] = kind;
         self.image[at + 33] = caller;
-        self.image[at + 34] = svn;
-        self.used += 1;
+    }
+
+    /// The caller is the locality of the node above.
+    pub fn derive(
+        mut self,
+        (above, retain): (usize, u8),
+        place: usize,
+        (kind, digest, fresh): (&[u8; 4], u8, u8),
+    ) -> Self {
+        let (kind, digest, caller) = (
+            u32::from_le_bytes(*kind),
+            [digest; 48],
+            self.locality(above),
+        );
+        self.journal.push(6);
+        self.journal.extend(self.handle_of(above));
+        self.journal.push(retain);
+        self.journal.extend(number(kind));
+        self.journal.extend(digest);
+        self.journal.extend([fresh; 20]);
+        self.journal.extend(number(caller));
+        self.put_node(place, above, kind, &digest, caller);
+        self.put_handle(place, [fresh; 20]);
+        if retain == 0 {
+            self.put_handle(above, [0xFF; 20]);
+        }
+        self
+    }
+
+    pub fn extend(mut self, place: usize, digest: u8) -> Self {
+        self.journal.push(7);
+        self.journal.extend(self.handle_of(place));
+        self.journal.extend([digest; 48]);
+        self.journal.extend(number(self.locality(place)));
+        let at = 400 + 35 * place;
+        self.put(at + 20, &extended(&self.get(at + 20), &[digest; 48]));
+        self.put(at + 8, &[digest; 48]);
+        self
+    }
+
+    pub fn rotate(mut self, place: usize, fresh: u8) -> Self {
+        self.journal.push(8);
+        self.journal.extend(self.handle_of(place));
+        self.journal.extend([fresh; 20]);
+        self.journal.extend(number(self.locality(place)));
+        self.put_handle(place, [fresh; 20]);
+        self
+    }
+
+    /// Destroys the first of these nodes; the others go with it.
+    pub fn destroy(mut self, freed: &[usize]) -> Self {
+        self.journal.push(9);
+        self.journal.extend(self.handle_of(freed[0]));
+        self.journal.extend(number(self.locality(freed[0])));
+        for place in freed {
+            let at = 400 + 35 * place;
+            self.image[at..at + 35].fill(0);
+        }
         self
     }
 
@@ -174,6 +271,22 @@ pub fn some_unit() -> Unit {
         .update(0x44, 0x55)
 }
 
+/// A tree of five nodes: 1 and 2 below the root, which is retired, 3 below 1, a stash's node 4 below the root. Each of
+/// the four commands had its part.
+pub fn some_tree() -> Unit {
+    Unit::new()
+        .cold_boot(0x11, 0x33)
+        .derive((0, 1), 1, (b"ENGI", 0x21, 0xA1))
+        .derive((0, 1), 2, (b"DOOR", 0x22, 0xA2))
+        .derive((1, 1), 3, (b"PUMP", 0x23, 0xA3))
+        .derive((2, 0), 4, (b"LOCK", 0x24, 0xA4))
+        .extend(3, 0x43)
+        .rotate(1, 0xB1)
+        .destroy(&[4, 2])
+        .derive((0, 1), 2, (b"DOOR", 0x25, 0xA5))
+        .stash_at(0, 4, (b"HOUR", 0x66, 3, 300))
+}
+
 /// A temporary folder that goes when the value does.
 pub struct Folder(pub PathBuf);
 
@@ -210,5 +323,35 @@ impl Drop for Folder {
     fn drop(&mut self) {
         // What is left behind in the temporary folder harms no test.
         let _ = fs::remove_dir_all(&self.0);
+    }
+}
+
+/// Tags that are opened are closed in their order, and nothing is asked of another file or place.
+#[track_caller]
+pub fn check_page(page: &str) {
+    let rest = page.strip_prefix("<!DOCTYPE html>").expect("a doctype");
+    let mut open: Vec<&str> = Vec::new();
+    for part in rest.split('<').skip(1) {
+        let (tag, text) = part.split_once('>').expect("a tag ends");
+        assert!(!text.contains('>'), "{text}");
+        assert_eq!(tag.matches('"').count() % 2, 0, "quotes of <{tag}>");
+        let name = tag.split(|c: char| !c.is_ascii_alphanumeric()).next();
+        match tag.strip_prefix('/') {
+            Some(name) => assert_eq!(open.pop(), Some(name)),
+            None if tag.ends_with('/') => {}
+            None => open.push(name.expect("a name")),
+        }
+        if open.last() != Some(&"style") {
+            let entities = text.split('&').skip(1);
+            for entity in entities {
+                assert!(entity.contains(';'), "&{entity}");
+            }
+        }
+    }
+    assert!(open.is_empty(), "{open:?} are left open");
+    for foreign in [
+        "http:", "https:", "src=", "href", "url(", "@import", "<script", "<link",
+    ] {
+        assert!(!page.contains(foreign), "{foreign}");
     }
 }

@@ -7,7 +7,8 @@ use crate::journal::read::Bytes;
 use crate::journal::*;
 use crate::layout::{number, IMAGE_WORDS};
 use crate::player::NONE_IN_HAND;
-use Value::{Digest, Number};
+use crate::tree::{Act, TreeCall};
+use Value::{Digest, Handle, Number};
 
 impl Event {
     /// Its entry; no bytes if nothing is stored.
@@ -31,9 +32,37 @@ impl Event {
                 EXTENSION_ENTRY,
                 vec![Number(extension.register), Digest(extension.digest)],
             ),
+            Event::Tree(call) => of_call(call),
         };
         entry_of(kind, &values)
     }
+}
+
+/// The kind of a tree command's entry, and what follows it: the data after its
+/// first byte, the fresh handle if there is one, and the caller.
+fn of_call(call: &TreeCall) -> (u8, Vec<Value>) {
+    let mut values = vec![Handle(call.handle)];
+    let kind = match call.act {
+        Act::Derive {
+            retain,
+            kind,
+            digest,
+        } => {
+            values.extend([Number(retain), Number(kind), Digest(digest)]);
+            DERIVE_ENTRY
+        }
+        Act::Extend { digest } => {
+            values.push(Digest(digest));
+            REMEASURE_ENTRY
+        }
+        Act::Rotate => ROTATE_ENTRY,
+        Act::Destroy => DESTROY_ENTRY,
+    };
+    if matches!(kind, DERIVE_ENTRY | ROTATE_ENTRY) {
+        values.push(Handle(call.fresh));
+    }
+    values.push(Number(call.caller));
+    (kind, values)
 }
 
 impl Book {

@@ -8,7 +8,9 @@ use crate::boots::Boot;
 use crate::journal::read::{Bytes, Entry, Reads};
 use crate::journal::*;
 use crate::layout::*;
+use crate::memory::Tree;
 use crate::requests::{Extension, Stash};
+use crate::tree::{Act, TreeCall, DEFAULT, RETIRED};
 use std::io::{self, Read};
 
 /// The bytes of a saved image.
@@ -165,7 +167,10 @@ pub trait Replays: Reads {
 
     /// What an entry tells. It has no secret, and not who began a disabling.
     fn event(&self, entry: &Entry) -> Event {
-        use Value::{Digest as D, Number as N};
+        use Value::{Digest as D, Handle as H, Number as N};
+        let call = |handle, act, fresh: &[u8], caller| {
+            Event::Tree(TreeCall::new(handle, act, fresh, caller))
+        };
         let boot = |runtime, manifest| Boot {
             runtime,
             manifest,
@@ -183,6 +188,21 @@ pub trait Replays: Reads {
             (EXTENSION_ENTRY, &[N(register), D(digest)]) => {
                 Event::Extension(Extension { register, digest })
             }
+            (DERIVE_ENTRY, &[H(handle), N(retain), N(kind), D(digest), H(fresh), N(caller)]) => {
+                let act = Act::Derive {
+                    retain,
+                    kind,
+                    digest,
+                };
+                call(handle, act, &fresh, caller)
+            }
+            (REMEASURE_ENTRY, &[H(handle), D(digest), N(caller)]) => {
+                call(handle, Act::Extend { digest }, &[], caller)
+            }
+            (ROTATE_ENTRY, &[H(handle), H(fresh), N(caller)]) => {
+                call(handle, Act::Rotate, &fresh, caller)
+            }
+            (DESTROY_ENTRY, &[H(handle), N(caller)]) => call(handle, Act::Destroy, &[], caller),
             (_, _) => Event::DisableCommand,
         }
     }
@@ -192,7 +212,10 @@ pub trait Replays: Reads {
         (standing.booted || self.goes_unbooted(event))
             && (!standing.off || self.goes_off(event))
             && match event {
-                Event::Stash(_) => self.has_room(&standing.state),
+                Event::Stash(_) => {
+                    self.has_holder(&standing.state) && self.has_room(&standing.state)
+                }
+                Event::Tree(call) => self.could_call(&standing.state, call),
                 Event::Extension(extension) => self.is_register(extension.register),
                 _ => true,
             }
@@ -210,7 +233,62 @@ pub trait Replays: Reads {
 
     /// Whether a node is free.
     fn has_room(&self, state: &State) -> bool {
-        state.nodes.iter().any(Option::is_none)
+        state.has_room()
+    }
+
+    /// Whether a node has the default handle.
+    fn has_holder(&self, state: &State) -> bool {
+        state.with_handle(&DEFAULT).is_some()
+    }
+
+    /// Whether the unit would not decline a tree command.
+    fn could_call(&self, state: &State, call: &TreeCall) -> bool {
+        let Some(node) = self.named(state, &call.handle) else {
+            return false;
+        };
+        self.may_call(state, node, call.caller)
+            && match call.act {
+                Act::Derive { retain, .. } => {
+                    self.is_retain(retain)
+                        && self.is_fresh(state, call)
+                        && self.has_room_below(state)
+                }
+                Act::Extend { .. } => self.may_extend(state, node),
+                Act::Rotate => self.is_fresh(state, call),
+                Act::Destroy => self.may_destroy(state, node),
+            }
+    }
+
+    /// The place of the node that a tree command names.
+    fn named(&self, state: &State, handle: &Handle) -> Option<usize> {
+        state.with_handle(handle)
+    }
+
+    /// Whether the caller is the node's locality.
+    fn may_call(&self, state: &State, node: usize, caller: u32) -> bool {
+        state.locality(node) == caller
+    }
+
+    fn is_retain(&self, retain: u32) -> bool {
+        retain <= 1
+    }
+
+    /// Whether a fresh handle is neither zero nor retired, and no node's.
+    fn is_fresh(&self, state: &State, call: &TreeCall) -> bool {
+        call.fresh != DEFAULT && call.fresh != RETIRED && state.with_handle(&call.fresh).is_none()
+    }
+
+    /// Whether a node is free for a derived child.
+    fn has_room_below(&self, state: &State) -> bool {
+        state.has_room()
+    }
+
+    fn may_extend(&self, state: &State, node: usize) -> bool {
+        !state.is_root(node)
+    }
+
+    fn may_destroy(&self, state: &State, node: usize) -> bool {
+        !state.is_root(node) && !state.has_child(node)
     }
 
     fn is_register(&self, register: u32) -> bool {

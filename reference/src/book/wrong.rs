@@ -1,11 +1,14 @@
 //! Books that are wrong on purpose: the right engine has to disagree with them.
 
 use super::slices::Slices;
+use super::tree::derived;
 use super::{root, stashed, Book, Event, Look, Node, Opened, Reading, State};
 use crate::boots::{Boot, Boots, Inputs};
 use crate::engine::Paper;
-use crate::layout::{extended, NODES, STASHED, ZERO};
+use crate::journal::groups;
+use crate::layout::{destroy_stores, extended, HANDLE_BYTES, NODES, STASHED, ZERO};
 use crate::requests::{Extension, Request, Stash};
+use crate::tree::{Act, DEFAULT};
 
 /// How the books are kept.
 pub trait Keeper {
@@ -278,6 +281,143 @@ pub const BOOKS: &[WrongBook] = &[
         &FullEarly,
     ),
     book(
+        "CallForgotten",
+        "a counted tree command is left out of the history",
+        &Forgotten(|event| matches!(event, Event::Tree(_))),
+    ),
+    book(
+        "DestroyForgotten",
+        "a counted destroy is left out of the history",
+        &Forgotten(|event| matches!(event, Event::Tree(call) if call.act == Act::Destroy)),
+    ),
+    book(
+        "HistoryFreesAlone",
+        "a destroy in the history frees its node alone",
+        &Reads(Reading {
+            goes: |_| false,
+            ..Reading::PAPER
+        }),
+    ),
+    book(
+        "HistoryFreesLive",
+        "a destroy in the history frees live ancestors, too",
+        &Reads(Reading {
+            goes: |node| node.parent.is_some(),
+            ..Reading::PAPER
+        }),
+    ),
+    book(
+        "HistoryFreesFirst",
+        "a destroy in the history frees every retired node above, childless or not",
+        &Reads(Reading {
+            called: |state, place, call, reading| {
+                let mut above = state.node(place).parent;
+                state.called(place, call, reading);
+                while let (Act::Destroy, Some(next)) = (call.act, above) {
+                    above = None;
+                    if let Some(node) = state.nodes[next].clone().filter(reading.goes) {
+                        state.nodes[next] = None;
+                        above = node.parent;
+                    }
+                }
+            },
+            ..Reading::PAPER
+        }),
+    ),
+    book(
+        "HistoryRetains",
+        "a derive in the history never retires its parent",
+        &Reads(Reading {
+            called: |state, place, call, reading| {
+                let before = state.node(place).handle;
+                state.called(place, call, reading);
+                if call.act.is_derive() {
+                    state.node(place).handle = before;
+                }
+            },
+            ..Reading::PAPER
+        }),
+    ),
+    book(
+        "HistoryChildSvn",
+        "a derived child in the history has svn 1",
+        &Reads(Reading {
+            derived: |parent, call| Node {
+                svn: 1,
+                ..derived(parent, call)
+            },
+            ..Reading::PAPER
+        }),
+    ),
+    book(
+        "HistoryChildDefault",
+        "a derived child in the history has the default handle",
+        &Reads(Reading {
+            derived: |parent, call| Node {
+                handle: Some(DEFAULT),
+                ..derived(parent, call)
+            },
+            ..Reading::PAPER
+        }),
+    ),
+    book(
+        "HistoryChildLocality",
+        "a derived child in the history has locality 0",
+        &Reads(Reading {
+            derived: |parent, call| Node {
+                locality: 0,
+                ..derived(parent, call)
+            },
+            ..Reading::PAPER
+        }),
+    ),
+    book(
+        "HistoryExtendAnew",
+        "an extend in the history takes the cumulative from zero",
+        &Reads(Reading {
+            called: |state, place, call, reading| {
+                state.called(place, call, reading);
+                if let Act::Extend { digest } = call.act {
+                    state.node(place).cumulative = extended(&ZERO, &digest);
+                }
+            },
+            ..Reading::PAPER
+        }),
+    ),
+    book(
+        "DestroyStoresOne",
+        "a destroy has the stores of one node",
+        &DestroyStoresOne,
+    ),
+    book(
+        "JournalFreshLast",
+        "a tree command's entry in the journal has the fresh handle behind the caller",
+        &Reads(Reading {
+            entry: |event| match event {
+                Event::Tree(call) if call.act.takes_fresh() => {
+                    let mut entry = event.entry();
+                    let caller = groups(call.caller).len();
+                    let tail = entry.len() - caller - HANDLE_BYTES;
+                    entry[tail..].rotate_left(HANDLE_BYTES);
+                    entry
+                }
+                _ => event.entry(),
+            },
+            ..Reading::PAPER
+        }),
+    ),
+    book(
+        "JournalWithoutDestroys",
+        "a destroy has no entry in the journal",
+        &Reads(Reading {
+            entry: |event| match event {
+                Event::Tree(call) if call.act == Act::Destroy => vec![],
+                _ => event.entry(),
+            },
+            ..Reading::PAPER
+        }),
+    ),
+    book(
         "BeginForgotten",
         "a begin leaves the accepted slices in the list",
         &BeginForgotten,
@@ -362,12 +502,26 @@ impl Keeper for FullEarly {
         let last = book.state.nodes[NODES - 1].clone();
         let below_root = Node {
             parent: Some(0),
-            holds: false,
+            handle: None,
             ..root(&ZERO)
         };
         book.state.nodes[NODES - 1].get_or_insert(below_root);
         let opened = book.request(request);
         book.state.nodes[NODES - 1] = last;
+        opened
+    }
+}
+
+struct DestroyStoresOne;
+
+impl Keeper for DestroyStoresOne {
+    fn request(&self, book: &mut Book, request: Request) -> Opened {
+        let opened = book.request(request);
+        if let (0, Some(hand)) = (opened.number, &mut book.in_hand) {
+            if matches!(&hand.event, Event::Tree(call) if call.act == Act::Destroy) {
+                hand.number = destroy_stores(1) as u32;
+            }
+        }
         opened
     }
 }

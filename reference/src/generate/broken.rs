@@ -63,7 +63,8 @@ impl Maker {
 
     fn any_op(&mut self) -> Op {
         let mark = self.ops.len();
-        match self.random.below(11) {
+        // They take turns from seed to seed.
+        match self.seed / 8 % 12 {
             0 => {
                 let words = self.random.words(3);
                 self.push(Op::Image(words));
@@ -74,6 +75,7 @@ impl Maker {
             4 => self.push_stores(COLD_STORES),
             5 => self.push(Op::Answer(12)),
             9 => self.push_entry(),
+            10 => self.push_call(),
             6 => self.push(Op::Set {
                 field: 0,
                 value: 1 << 40,

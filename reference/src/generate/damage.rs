@@ -8,6 +8,7 @@ use crate::random::Random;
 pub(super) struct Drawn {
     pub words: Vec<u32>,
     pub root: usize,
+    /// The holder of the default handle; the root if there is none.
     pub holder: usize,
     /// Used nodes other than the root.
     pub others: Vec<usize>,
@@ -108,6 +109,15 @@ pub(super) const FAULTS: &[Fault] = &[
     holder_with_one_word,
     two_holders,
     two_holders,
+    same_handle,
+    same_handle,
+    nearly_same_handle,
+    all_retired,
+    |drawn, random| {
+        let word = random.pick(&[0, 1, 7, u32::MAX]);
+        let used = drawn.any_used(random);
+        drawn.node(used)[LOCALITY] = word;
+    },
     |drawn, _| drawn.set_handle(drawn.holder, RETIRED_HANDLE),
     |drawn, random| {
         let word = NODE_CURRENT + random.below(DIGEST_WORDS);
@@ -247,7 +257,7 @@ fn root_type_of_other(drawn: &mut Drawn, random: &mut Random) {
     }
 }
 
-/// A handle that is neither default nor retired.
+/// A handle that is likely nobody's.
 fn odd_handle(drawn: &mut Drawn, random: &mut Random) {
     let used = drawn.any_used(random);
     let word = &mut drawn.node(used)[HANDLE + random.below(HANDLE_WORDS)];
@@ -267,6 +277,36 @@ fn two_holders(drawn: &mut Drawn, random: &mut Random) {
         used
     };
     drawn.set_handle(second, DEFAULT_HANDLE);
+}
+
+/// Two nodes with one live handle.
+fn same_handle(drawn: &mut Drawn, random: &mut Random) {
+    let handle = random.pick(&[[7; HANDLE_WORDS], [0, 0, 0, 0, 1], [1, 0, 0, 0, 0]]);
+    two_with(drawn, random, [handle; 2]);
+}
+
+/// No handle is live.
+fn all_retired(drawn: &mut Drawn, _: &mut Random) {
+    drawn.set_handle(drawn.root, RETIRED_HANDLE);
+    for index in drawn.others.clone() {
+        drawn.set_handle(index, RETIRED_HANDLE);
+    }
+}
+
+/// Two nodes whose handles have all words but one in common.
+fn nearly_same_handle(drawn: &mut Drawn, random: &mut Random) {
+    let handle = random.pick(&[[7; HANDLE_WORDS], DEFAULT_HANDLE, RETIRED_HANDLE]);
+    let mut other = handle;
+    other[random.below(HANDLE_WORDS)] ^= 1 << random.below(32);
+    two_with(drawn, random, [handle, other]);
+}
+
+/// Gives two nodes these handles, the root and another.
+fn two_with(drawn: &mut Drawn, random: &mut Random, handles: [[u32; HANDLE_WORDS]; 2]) {
+    drawn.set_handle(drawn.root, handles[0]);
+    if let Some(other) = one_of(&drawn.others, random) {
+        drawn.set_handle(other, handles[1]);
+    }
 }
 
 /// The first word or the last of PCR3.

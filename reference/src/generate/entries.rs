@@ -3,12 +3,13 @@
 
 use super::extensions::{outside_in_work, within};
 use super::svns::mail;
-use super::Maker;
+use super::{trees, Maker};
 use crate::journal::groups;
 use crate::layout::*;
 use crate::requests::Stash;
 use crate::script::Op;
 use crate::sha384::DIGEST_BYTES;
+use crate::tree::{Act, TreeCall, DEFAULT};
 
 /// The least, the greatest, and the numbers on both sides of every border between
 /// two lengths.
@@ -37,9 +38,21 @@ pub(super) fn stash_entry(stash: &Stash) -> usize {
     1 + DIGEST_BYTES + bytes.sum::<usize>()
 }
 
+/// The bytes of a tree command's entry.
+pub(super) fn call_entry(call: &TreeCall) -> usize {
+    let caller = groups(call.caller).len();
+    let fresh = if call.act.takes_fresh() {
+        HANDLE_BYTES
+    } else {
+        0
+    };
+    trees::data(call).len() + fresh + caller
+}
+
 /// Sizes of buffers near every length of an entry.
-const SIZES: [u16; 24] = [
-    0, 0, 1, 1, 2, 48, 49, 50, 51, 52, 53, 55, 56, 58, 60, 62, 63, 64, 65, 95, 96, 97, 98, 160,
+const SIZES: [u16; 32] = [
+    0, 0, 1, 1, 2, 21, 22, 41, 42, 48, 49, 50, 51, 52, 53, 55, 56, 58, 60, 62, 63, 64, 65, 69, 70,
+    91, 92, 95, 96, 97, 98, 160,
 ];
 
 impl Maker {
@@ -104,6 +117,7 @@ impl Maker {
         self.push_entry();
         self.push_extension();
         self.entry_of(Sort::Extension, EXTENSION_ENTRY);
+        self.tree_entries();
         self.push_small_request();
         self.take(0);
         self.push_update(false);
@@ -114,6 +128,45 @@ impl Maker {
         self.take(BOOT_ENTRY);
         self.bent_entry();
         self.entries_when_off();
+    }
+
+    /// Tree commands on the last stash's node and the children below it.
+    fn tree_entries(&mut self) {
+        let mut number = || self.random.pick(&BORDERS);
+        let (kind, caller) = (number(), number());
+        let stash = Stash {
+            caller,
+            ..self.stash()
+        };
+        self.push(Op::Request(mail(&stash)));
+        self.push_stores(STASH_STORES);
+        let digest = stash.digest;
+        let handle = |first: u8| [first; HANDLE_BYTES];
+        let derive = |retain: u32| Act::Derive {
+            retain,
+            kind,
+            digest,
+        };
+        let calls = [
+            (DEFAULT, derive(1), 1),
+            (handle(1), derive(0), 2),
+            (handle(2), Act::Extend { digest }, 0),
+            (handle(2), Act::Rotate, 3),
+            // With its parent, which is retired.
+            (handle(3), Act::Destroy, 0),
+        ];
+        for (of, act, fresh) in calls {
+            let call = TreeCall::new(of, act, &handle(fresh), caller);
+            self.push(Op::Request(trees::mail(&call)));
+            self.entry_of(call.sort(), call_entry(&call));
+        }
+        self.push_stores(NODE_WORDS);
+        self.take(call_entry(&TreeCall::new(
+            DEFAULT,
+            Act::Destroy,
+            &[],
+            caller,
+        )));
     }
 
     /// A disabling by a command or by a boot after a torn work; then works that

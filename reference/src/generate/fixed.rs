@@ -1,12 +1,13 @@
 //! Inputs that have no seed: they go through every case of the running digest,
-//! of a boot's inputs, of an svn, of the number of nodes, of an extension and of a
-//! journal entry.
+//! of a boot's inputs, of an svn, of the number of nodes, of an extension, of a
+//! tree command and of a journal entry.
 
 use super::fixed_boots::boot_inputs;
 use super::fixed_entries::entries;
 use super::fixed_extensions::extensions;
 use super::fixed_nodes::nodes;
 use super::fixed_svns::svns;
+use super::fixed_trees::trees;
 use super::slices::{cuts, BLOCK, MANY, PAST};
 use crate::layout::{SLICE_BYTES, TOTAL_BYTES};
 use crate::random::Random;
@@ -35,6 +36,7 @@ pub fn fixed_inputs() -> Vec<Vec<u8>> {
     inputs.push(extension_input());
     inputs.extend(svn_inputs());
     inputs.extend(node_inputs());
+    inputs.extend(tree_inputs());
     inputs.extend(entry_inputs());
     inputs
 }
@@ -52,6 +54,11 @@ pub fn svn_inputs() -> Vec<Vec<u8>> {
 /// Every case of the number of nodes.
 pub fn node_inputs() -> Vec<Vec<u8>> {
     in_pieces(nodes().into_iter())
+}
+
+/// Every case of a tree command, in several inputs.
+pub fn tree_inputs() -> Vec<Vec<u8>> {
+    in_pieces_of(INPUT_BYTES / 8, trees().into_iter())
 }
 
 /// Every case of a journal entry, in several inputs.

@@ -5,11 +5,13 @@
 use super::entries::*;
 use super::fixed_svns::{boot, cold_boot, set, stores};
 use super::svns::mail;
+use super::trees;
 use crate::checksum::sealed;
 use crate::layout::*;
 use crate::requests::Stash;
 use crate::script::{BootBytes, Mail, Op};
 use crate::sha384::DIGEST_BYTES;
+use crate::tree::{Act, TreeCall, DEFAULT};
 
 /// Lists of operations; none needs what another leaves.
 pub(super) fn entries() -> Vec<Vec<Op>> {
@@ -80,6 +82,7 @@ fn request(code: u32, body: &[u8], table: &[u8], verdict: u8) -> Op {
         verdict,
         table: table.to_vec(),
         bytes: sealed(code, body),
+        fresh: Vec::new(),
     })
 }
 
@@ -94,6 +97,41 @@ fn extend(register: u32, digest: &Digest) -> Op {
         &[],
         0,
     )
+}
+
+/// A tree command of the plain stash's caller: its handle begins so, as does the
+/// fresh one.
+fn call(of: u8, act: Act, fresh: u8) -> TreeCall {
+    let handle = |first: u8| match first {
+        0 => DEFAULT,
+        _ => std::array::from_fn(|i| first.wrapping_add(i as u8)),
+    };
+    TreeCall::new(handle(of), act, &handle(fresh), plain_stash().caller)
+}
+
+/// A derived child's type takes five bytes.
+fn derive(retain: u32) -> Act {
+    Act::Derive {
+        retain,
+        kind: 0xF123_4567,
+        digest: digest(0x51),
+    }
+}
+
+/// A unit with a stash, a child below it that is retired, and one below that.
+fn grown() -> Vec<Op> {
+    let mut ops = booted_then(&[stash(), stores(STASH_STORES)]);
+    for (of, retain, fresh) in [(0, 1, 0x70), (0x70, 0, 0x90)] {
+        let call = call(of, derive(retain), fresh);
+        ops.extend([Op::Request(trees::mail(&call)), stores(SUCCEED_STORES)]);
+    }
+    ops
+}
+
+/// The same, and one more node below the last, which is retained.
+fn grown_more() -> Vec<Op> {
+    let more = Op::Request(trees::mail(&call(0x90, derive(1), 0xB0)));
+    [grown(), vec![more, stores(DERIVE_STORES)]].concat()
 }
 
 fn verify(verdict: u8) -> Op {
@@ -152,6 +190,13 @@ fn openings() -> Vec<Opening> {
     };
     let fine = || booted_then(&[]);
     let extension = || extend(17, &digest(0x31));
+    let called = |before: Vec<Op>, call: TreeCall| {
+        let open = Op::Request(trees::mail(&call));
+        work(before, open, call.sort(), call_entry(&call), 12)
+    };
+    let remeasure = Act::Extend {
+        digest: digest(0x61),
+    };
     let cold = || Op::Cold(other_boot());
     let stash_bytes = stash_entry(&plain_stash());
     vec![
@@ -176,6 +221,18 @@ fn openings() -> Vec<Opening> {
         work(fine(), update(0), Sort::Nothing, 0, 0),
         work(off(), stash(), Sort::Nothing, 0, 12),
         work(full(), stash(), Sort::Nothing, 0, 12),
+        called(grown(), call(0x90, derive(1), 0xB0)),
+        called(grown(), call(0x90, derive(0), 0xB0)),
+        called(grown(), call(0x90, remeasure, 0)),
+        called(grown(), call(0x90, Act::Rotate, 0xB0)),
+        called(grown_more(), call(0xB0, Act::Destroy, 0)),
+        work(
+            grown(),
+            Op::Request(trees::mail(&call(0x70, Act::Destroy, 0))),
+            Sort::Nothing,
+            0,
+            12,
+        ),
         work(fine(), verify(1), Sort::Nothing, 0, 8),
         work(fine(), identity(), Sort::Nothing, 0, ANSWER_MAX),
     ]
@@ -247,7 +304,16 @@ fn values(field: u8, sort: Sort) -> Vec<u64> {
         1 => vec![4, 5, 30, 0, 3, 31, 32, 36, half + 4, half + 30, u64::MAX],
         2 => vec![0, 31, 32, half, u64::MAX],
         3 => vec![0, 8, 12, 104, 105, half, half + 8, u64::MAX],
-        _ => vec![1],
+        4 => vec![0, 1, 2, 32, 33, half, half + 1],
+        _ => vec![1, 31, 32, half + 1],
+    }
+}
+
+/// The parts that are set: of a destroy, indices that count and one that does not.
+fn parts(sort: Sort) -> Vec<u8> {
+    match sort {
+        Sort::Destroy => vec![0, 1, 2, 3, 4, 16, 17, 18],
+        _ => vec![0, 1, 2, 3, 4],
     }
 }
 
@@ -256,7 +322,7 @@ fn values(field: u8, sort: Sort) -> Vec<u64> {
 fn bent(work: &Opening) -> Vec<Vec<Op>> {
     let all = work.sort.stores();
     let mut lists = Vec::new();
-    for field in 0..=4 {
+    for field in parts(work.sort) {
         for value in values(field, work.sort) {
             let mut ops = Vec::new();
             for made in [all.saturating_sub(1), all] {

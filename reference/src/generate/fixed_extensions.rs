@@ -71,6 +71,7 @@ fn request(register: u32, length: usize) -> Mail {
         verdict: 0,
         table: Vec::new(),
         bytes,
+        fresh: Vec::new(),
     }
 }
 

@@ -5,11 +5,15 @@ use super::journals::{any_extension, any_stash, any_unit, boot, Inspection, Long
 use crate::book::replay::{bytes, Inspector, COMPARED_FROM, IMAGE_BYTES};
 use crate::book::Event;
 use crate::journal::read::{Bytes, Reads};
-use crate::journal::{groups, EXTENSION_ENTRY, GROUP_BITS, MORE, NUMBER_BYTES, STASH_ENTRY};
+use crate::journal::{
+    groups, DERIVE_ENTRY, DESTROY_ENTRY, EXTENSION_ENTRY, GROUP_BITS, MORE, NUMBER_BYTES,
+    STASH_ENTRY,
+};
 use crate::layout::*;
 use crate::random::Random;
 use crate::requests::{Extension, Stash};
 use crate::sha384::DIGEST_BYTES;
+use crate::tree::{Act, TreeCall, DEFAULT, RETIRED};
 use std::io::Read;
 use std::rc::Rc;
 
@@ -27,6 +31,7 @@ pub(super) fn dishonest() -> Vec<Inspection> {
         words(),
         wild_images(),
         orders(),
+        calls(),
         short_images(),
         long(),
     ]
@@ -74,14 +79,49 @@ fn extension(register: u32) -> Extension {
     }
 }
 
-/// A unit with every kind of work but a disabling in its journal; the numbers
-/// have one, two and five bytes.
-fn busy() -> Unit {
+/// The caller of the last stash of a busy unit, and the handle of its last node.
+const BUSY_CALLER: u32 = 300u32.rotate_right(5);
+const BUSY_HANDLE: Handle = [3; HANDLE_BYTES];
+
+fn derive(retain: u32) -> Act {
+    Act::Derive {
+        retain,
+        kind: 300,
+        digest: std::array::from_fn(|i| 0x80 ^ i as u8),
+    }
+}
+
+/// A tree command of that caller.
+fn call(of: Handle, act: Act, fresh: u8, caller: u32) -> TreeCall {
+    TreeCall::new(of, act, &[fresh; HANDLE_BYTES], caller)
+}
+
+/// A unit with boots, stashes and an extension in its journal; the numbers have
+/// one, two and five bytes.
+fn stashes() -> Unit {
     let mut unit = Unit::booted();
     unit.stash(&stash(0xF234_5678));
     unit.extend(&extension(17));
     unit.update(&boot(2), true);
     unit.stash(&stash(300));
+    unit
+}
+
+/// The same with every kind of tree command.
+fn busy() -> Unit {
+    let mut unit = stashes();
+    let handle = |first: u8| [first; HANDLE_BYTES];
+    let digest = [0x6D; DIGEST_BYTES];
+    for (of, act, fresh) in [
+        (DEFAULT, derive(1), 1),
+        (handle(1), derive(0), 2),
+        (handle(2), Act::Extend { digest }, 0),
+        (handle(2), derive(1), 4),
+        (handle(2), Act::Rotate, 3),
+        (handle(4), Act::Destroy, 0),
+    ] {
+        unit.call(&call(of, act, fresh, BUSY_CALLER));
+    }
     unit
 }
 
@@ -120,11 +160,26 @@ fn units() -> Vec<Unit> {
     units.push(then(&busy(), &|unit| unit.cold(&boot(6))));
     units.extend([NODES - 9, NODES - 8, NODES - 1].map(with_nodes));
     let full = with_nodes(NODES);
+    units.extend(grown());
     units.push(then(&full, &|unit| unit.update(&boot(7), true)));
     units.push(then(&full, &|unit| unit.extend(&extension(30))));
     units.push(then(&full, &|unit| unit.cold(&boot(8))));
     units.push(full);
     units
+}
+
+/// A unit full of derived nodes, one without a holder of the default handle, and
+/// one without a live handle.
+fn grown() -> [Unit; 3] {
+    let mut full = Unit::booted();
+    for number in 1..NODES as u8 {
+        full.call(&call(DEFAULT, derive(1), number, 0));
+    }
+    let mut unheld = Unit::booted();
+    unheld.call(&call(DEFAULT, derive(0), 1, 0));
+    let mut dead = unheld.clone();
+    dead.call(&call([1; HANDLE_BYTES], Act::Destroy, 0, 0));
+    [full, unheld, dead]
 }
 
 /// Every one of them with its own image.
@@ -191,14 +246,18 @@ fn cut() -> Vec<Inspection> {
         .collect()
 }
 
-/// A journal with every byte changed, to a few values each.
+/// A journal with every byte changed, to a few values each; fewer in the entries of
+/// tree commands.
 fn damaged() -> Vec<Inspection> {
     let unit = busy_and_off();
     let on = On::unit("damaged", &busy());
+    let calls = stashes().journal.len()..busy().journal.len();
     let mut inputs = Vec::new();
     for at in 0..unit.journal.len() {
         let right = unit.journal[at];
-        for wrong in [right ^ 1, right ^ 0x80, right.wrapping_add(1), 0, 0xFF] {
+        let wrong = [right ^ 1, right ^ 0x80, 0xFF, 0, right.wrapping_add(1)];
+        let few = if calls.contains(&at) { 2 } else { wrong.len() };
+        for &wrong in &wrong[..few] {
             let mut journal = unit.journal.clone();
             journal[at] = wrong;
             inputs.push(on.journal(journal));
@@ -224,7 +283,7 @@ fn in_groups(number: u32, count: u32, bits: u8) -> Vec<u8> {
 }
 
 /// A number in its shortest form and in every other.
-fn forms(number: u32) -> Vec<Vec<u8>> {
+pub(super) fn forms(number: u32) -> Vec<Vec<u8>> {
     let shortest = groups(number).len() as u32;
     let mut forms = vec![groups(number), in_groups(number, shortest, MORE)];
     forms.extend((shortest..=NUMBER_BYTES + 2).map(|count| in_groups(number, count, 0)));
@@ -235,14 +294,29 @@ fn forms(number: u32) -> Vec<Vec<u8>> {
 }
 
 /// An entry with these bytes for one of its numbers: a stash's type, svn or
-/// caller, or an extension's register. Then the place behind those bytes.
+/// caller, an extension's register, a derive's retain, type or caller, or a
+/// destroy's caller. Then the place behind those bytes.
 fn with_number(place: usize, number: &[u8]) -> (Vec<u8>, usize) {
     let digest = [0x5A; DIGEST_BYTES];
+    let (fresh, caller) = ([9; HANDLE_BYTES], groups(BUSY_CALLER));
     let (before, behind): (&[&[u8]], &[&[u8]]) = match place {
         0 => (&[&[STASH_ENTRY]], &[&digest, &[7, 8]]),
         1 => (&[&[STASH_ENTRY, 6], &digest], &[&[8]]),
         2 => (&[&[STASH_ENTRY, 6], &digest, &[7]], &[]),
-        _ => (&[&[EXTENSION_ENTRY]], &[&digest]),
+        3 => (&[&[EXTENSION_ENTRY]], &[&digest]),
+        4 => (
+            &[&[DERIVE_ENTRY], &BUSY_HANDLE],
+            &[&[5], &digest, &fresh, &caller],
+        ),
+        5 => (
+            &[&[DERIVE_ENTRY], &BUSY_HANDLE, &[1]],
+            &[&digest, &fresh, &caller],
+        ),
+        6 => (
+            &[&[DERIVE_ENTRY], &BUSY_HANDLE, &[1, 5], &digest, &fresh],
+            &[],
+        ),
+        _ => (&[&[DESTROY_ENTRY], &BUSY_HANDLE], &[]),
     };
     let start = [&before.concat(), number].concat();
     let entry = [&start[..], &behind.concat()].concat();
@@ -252,13 +326,22 @@ fn with_number(place: usize, number: &[u8]) -> (Vec<u8>, usize) {
 /// Numbers at every border in every form, at every place: in an entry that is
 /// whole with another behind it, and cut around the number's end.
 fn numbers() -> Vec<Inspection> {
-    let unit = busy();
-    let on = On::unit("number", &unit);
+    // Only a tree command needs a unit with its node.
+    let units = [stashes(), busy()].map(|unit| (On::unit("number", &unit), unit));
     let mut inputs = Vec::new();
     let others = [1, 3, 4, 30, 31, 300];
-    for number in BORDERS.into_iter().chain(others) {
+    let of_call = [0, 1, 2, 127, 128, BUSY_CALLER, u32::MAX];
+    let places = |number: u32| {
+        if of_call.contains(&number) {
+            0..8
+        } else {
+            0..4
+        }
+    };
+    for number in BORDERS.into_iter().chain(others).chain([2, BUSY_CALLER]) {
         for form in forms(number) {
-            for place in 0..4 {
+            for place in places(number) {
+                let (on, unit) = &units[usize::from(place >= 4)];
                 let (entry, behind) = with_number(place, &form);
                 let journal = [&unit.journal[..], &entry, &[3]].concat();
                 let behind = unit.journal.len() + behind;
@@ -395,6 +478,8 @@ fn tried() -> Vec<Vec<u8>> {
         Event::Update(boot(10)),
         Event::DisableCommand,
         Event::Stash(stash(0x1234)),
+        Event::Tree(call(DEFAULT, derive(1), 9, 0)),
+        Event::Tree(call(BUSY_HANDLE, Act::Destroy, 0, BUSY_CALLER)),
     ];
     events.extend(registers.map(|register| Event::Extension(extension(register))));
     events.iter().map(Event::entry).collect()
@@ -420,6 +505,37 @@ fn orders() -> Vec<Inspection> {
             &[EXTENSION_ENTRY, 0xFF, 0xFF, 0xFF, 0xFF, 0x10],
         ] {
             inputs.push(on.journal([&unit.journal[..], faulty].concat()));
+        }
+    }
+    inputs
+}
+
+/// Every tree command at nodes of every sort, of their caller and of another, with
+/// fresh handles of every sort.
+fn calls() -> Vec<Inspection> {
+    let mut inputs = Vec::new();
+    let of = [
+        DEFAULT,
+        [1; HANDLE_BYTES],
+        BUSY_HANDLE,
+        RETIRED,
+        [0x77; HANDLE_BYTES],
+    ];
+    let digest = [0x3C; DIGEST_BYTES];
+    let extend = Act::Extend { digest };
+    for unit in grown().into_iter().chain([busy(), Unit::booted()]) {
+        let on = On::unit("call", &unit);
+        for of in of {
+            for caller in [0, BUSY_CALLER] {
+                let mut tried = vec![call(of, extend, 0, caller)];
+                tried.push(call(of, Act::Destroy, 0, caller));
+                for act in [derive(1), derive(0), derive(2), Act::Rotate] {
+                    tried.extend([0x99, 0, 0xFF, 1, 3].map(|fresh| call(of, act, fresh, caller)));
+                }
+                let entries = tried.into_iter().map(|call| Event::Tree(call).entry());
+                inputs
+                    .extend(entries.map(|entry| on.journal([&unit.journal[..], &entry].concat())));
+            }
         }
     }
     inputs

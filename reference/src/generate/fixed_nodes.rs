@@ -120,7 +120,8 @@ fn odd_nodes() -> Vec<Vec<u32>> {
     let roots = NEAR
         .into_iter()
         .flat_map(|index| ROOT_ODDITIES.map(|odd| odd_root(index, odd)));
-    nodes.chain(roots).collect()
+    let same = NEAR[3..].iter().map(|&index| same_handles(2, index));
+    nodes.chain(roots).chain(same).collect()
 }
 
 /// Works with each of their nodes set to every one, and to numbers behind them;

@@ -74,8 +74,8 @@ impl Maker {
             if whole && self.size < MOST_BEFORE_TWINS && self.random.once_in(12) {
                 self.push_twins(&words);
             } else {
-                self.push(Op::Image(words));
-                self.try_image();
+                self.push(Op::Image(words.clone()));
+                self.try_image(&words);
             }
         }
     }
@@ -157,7 +157,10 @@ impl Maker {
         };
         let (used, free) = order.split_at(used);
         let shape = self.random.below(3);
-        let holder = self.random.below(used.len());
+        // Past the last there is none.
+        let none = usize::from(self.random.once_in(4));
+        let holder = self.random.below(used.len() + none);
+        let lives = self.random.below(4);
         let mut words = self.random.words(NODES_AT);
         words.resize(IMAGE_WORDS, 0);
         words[MARK] = DONE;
@@ -173,10 +176,11 @@ impl Maker {
             } else {
                 used[above] as u32
             };
-            let handle = if place == holder {
-                DEFAULT_HANDLE
-            } else {
-                RETIRED_HANDLE
+            let handle = match lives {
+                _ if place == holder => DEFAULT_HANDLE,
+                0 | 1 => RETIRED_HANDLE,
+                2 if self.random.once_in(2) => RETIRED_HANDLE,
+                _ => self.live_handle(place),
             };
             let kind = self.word();
             let node = &mut words[node(index)..][..NODE_WORDS];
@@ -200,14 +204,25 @@ impl Maker {
         Drawn {
             words,
             root: used[0],
-            holder: used[holder],
+            holder: used.get(holder).copied().unwrap_or(used[0]),
             others: used[1..].to_vec(),
             free: free.to_vec(),
         }
     }
 
+    /// A handle that no other place has: any, or with its number in one word.
+    fn live_handle(&mut self, place: usize) -> [u32; HANDLE_WORDS] {
+        if self.random.once_in(2) {
+            let words = self.random.words(HANDLE_WORDS);
+            return std::array::from_fn(|i| words[i]);
+        }
+        let mut handle = self.random.pick(&[[7; HANDLE_WORDS], DEFAULT_HANDLE]);
+        handle[HANDLE_WORDS - 1] = 1 + place as u32;
+        handle
+    }
+
     /// Every opening on the image that is lent, then one work to its end.
-    fn try_image(&mut self) {
+    fn try_image(&mut self, image: &[u32]) {
         self.push_update(true);
         self.push(Op::Left);
         self.push_stash();
@@ -217,7 +232,14 @@ impl Maker {
         if self.random.once_in(3) {
             self.push_bad_boot();
         }
-        self.push_bad_manifest();
+        for _ in 0..self.random.between(1, 3) {
+            self.push_bad_manifest();
+        }
+        if image.len() == IMAGE_WORDS {
+            self.try_calls(image);
+        } else {
+            self.push_call();
+        }
         if self.random.once_in(3) {
             self.push_refused_request();
         }

@@ -3,6 +3,7 @@
 
 use super::entries::BORDERS;
 use super::fixed_journals::dishonest;
+use super::trees::{self, any_call};
 use crate::book::replay::bytes;
 use crate::book::Event;
 use crate::boots::Boot;
@@ -12,6 +13,7 @@ use crate::layout::*;
 use crate::random::Random;
 use crate::requests::{Extension, Request, Stash};
 use crate::sha384::DIGEST_BYTES;
+use crate::tree::{Act, TreeCall, DEFAULT};
 use crate::work::Work;
 use std::io::{self, Read};
 use std::rc::Rc;
@@ -96,6 +98,19 @@ impl Unit {
             ..Request::plain(code, &bytes)
         };
         ENGINE.open_request(&self.image, request).ok()
+    }
+
+    /// A tree command to its end.
+    pub fn call(&mut self, call: &TreeCall) {
+        let mail = trees::mail(call);
+        let request = Request {
+            caller: mail.caller,
+            fresh: &mail.fresh,
+            ..Request::plain(mail.code, &mail.bytes)
+        };
+        if let Ok(work) = ENGINE.open_request(&self.image, request) {
+            self.run(work);
+        }
     }
 
     /// A request to its end; one that is refused changes nothing.
@@ -194,8 +209,12 @@ pub(super) fn any_unit(seed: u64) -> Unit {
     let stays_on = random.once_in(2);
     unit.cold(&any_boot(random));
     for _ in 0..calls {
-        match random.below(20) {
+        match random.below(26) {
             0..=8 => unit.stash(&any_stash(random)),
+            20..=25 => {
+                let call = any_call(random, &unit.image);
+                unit.call(&call);
+            }
             9..=13 => unit.extend(&any_extension(random)),
             14 | 15 => unit.update(&any_boot(random), true),
             16 => unit.update(&any_boot(random), false),
@@ -213,13 +232,18 @@ pub(super) fn any_unit(seed: u64) -> Unit {
 }
 
 /// A long journal, made entry by entry while it is read: cold boots, and between
-/// them stashes, extensions, updates and disablings.
+/// them stashes, extensions, tree commands, updates and disablings.
 pub struct LongJournal {
     random: Random,
     /// Entries to come.
     left: u64,
     on: bool,
     free: usize,
+    /// The locality of the default handle's holder.
+    locality: u32,
+    /// A derived node's handle and locality, and how many there were before it.
+    child: Option<(Handle, u32)>,
+    children: u64,
     /// The bytes of an entry that are still to be read.
     rest: Vec<u8>,
 }
@@ -231,8 +255,47 @@ impl LongJournal {
             left: entries,
             on: false,
             free: 0,
+            locality: 0,
+            child: None,
+            children: 0,
             rest: Vec::new(),
         }
+    }
+
+    /// A fresh handle.
+    fn fresh(&mut self) -> Handle {
+        self.children += 1;
+        let number = self.children.to_le_bytes();
+        std::array::from_fn(|i| number.get(i).copied().unwrap_or(1))
+    }
+
+    /// A tree command: a child below the holder, or what can be done with it. Its
+    /// parent has another child as soon as it is retired, and stays.
+    fn call(&mut self) -> TreeCall {
+        let fresh = self.fresh();
+        let digest = any_digest(&mut self.random);
+        let Some((handle, locality)) = self.child else {
+            let act = Act::Derive {
+                retain: 1,
+                kind: self.random.half(),
+                digest,
+            };
+            self.child = Some((fresh, self.locality));
+            self.free -= 1;
+            return TreeCall::new(DEFAULT, act, &fresh, self.locality);
+        };
+        let act = match self.random.below(3) {
+            0 => Act::Rotate,
+            1 => Act::Extend { digest },
+            _ => Act::Destroy,
+        };
+        self.child = match act {
+            Act::Rotate => Some((fresh, locality)),
+            Act::Destroy => None,
+            _ => self.child,
+        };
+        self.free += usize::from(act == Act::Destroy);
+        TreeCall::new(handle, act, &fresh, locality)
     }
 
     /// The next event; it can be counted there, and the last leaves the unit on.
@@ -243,13 +306,20 @@ impl LongJournal {
             0 if self.left > 0 => Event::DisableCommand,
             1 | 2 => Event::Cold(any_boot(random)),
             3..=5 => Event::Update(any_boot(random)),
-            6..=23 if self.free > 0 => Event::Stash(any_stash(random)),
+            6..=17 if self.free > 0 => Event::Stash(any_stash(random)),
+            18..=29 if self.free > 0 || self.child.is_some() => Event::Tree(self.call()),
             _ => Event::Extension(any_extension(random)),
         };
-        match event {
-            Event::Cold(_) => (self.on, self.free) = (true, NODES - 1),
+        match &event {
+            Event::Cold(_) => {
+                (self.on, self.free) = (true, NODES - 1);
+                (self.locality, self.child) = (0, None);
+            }
             Event::DisableCommand => self.on = false,
-            Event::Stash(_) => self.free -= 1,
+            Event::Stash(stash) => {
+                self.free -= 1;
+                self.locality = stash.caller;
+            }
             _ => {}
         }
         event

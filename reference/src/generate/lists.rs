@@ -13,6 +13,8 @@ enum Opening {
     Update,
     /// An update boot of a unit that a command has disabled.
     BootDisabling,
+    /// A tree command; a derive has the most stores of those that a list opens.
+    Call,
 }
 
 impl Opening {
@@ -30,6 +32,7 @@ impl Opening {
             Opening::Extension => Sort::Extension,
             Opening::Disable | Opening::BootDisabling => Sort::Disabling,
             Opening::Update => Sort::Update,
+            Opening::Call => Sort::Derive,
         };
         sort.stores()
     }
@@ -142,7 +145,7 @@ impl Maker {
     }
 
     fn event(&mut self) {
-        match self.random.below(22) {
+        match self.random.below(25) {
             0..=3 => {
                 self.push_stash();
                 self.finish();
@@ -188,6 +191,11 @@ impl Maker {
                 self.finish();
                 self.push(Op::Answer(8));
             }
+            22..=24 => {
+                self.push_call();
+                self.finish();
+                self.push(Op::Answer(12));
+            }
             _ => self.peek(),
         }
     }
@@ -198,6 +206,7 @@ impl Maker {
             Opening::Extension => self.push_extension(),
             Opening::Disable => self.push_disable(),
             Opening::Update => self.push_update(true),
+            Opening::Call => self.push_call(),
             Opening::BootDisabling => {
                 self.push_disable();
                 self.push_stores(DISABLING_STORES);
@@ -215,6 +224,7 @@ impl Maker {
             Opening::Disable,
             Opening::Update,
             Opening::Update,
+            Opening::Call,
         ]);
         self.open(opening);
         opening

@@ -122,6 +122,7 @@ const SHAPES: &[Shape] = &[
     loop_of_two,
     loop_of_two,
     end_of_free_node,
+    |random| same_handles(random.between(1, LAST - 1), LAST),
 ];
 
 /// Two nodes that are each other's parent, and a chain that hangs on them.
@@ -194,6 +195,15 @@ pub(super) fn odd_node(index: usize, odd: Oddity) -> Vec<u32> {
 /// That node is the root, and odd; the one before it is free.
 pub(super) fn odd_root(index: usize, odd: Oddity) -> Vec<u32> {
     odd_in(chain(&from(index)[..LAST]), index, odd)
+}
+
+/// All nodes are used, and two have one live handle.
+pub(super) fn same_handles(one: usize, two: usize) -> Vec<u32> {
+    let mut unit = chain(&from(1));
+    for index in [one, two] {
+        set_handle(&mut unit, index, [9; HANDLE_WORDS]);
+    }
+    unit
 }
 
 fn odd_in(mut unit: Vec<u32>, index: usize, odd: Oddity) -> Vec<u32> {

@@ -1,11 +1,14 @@
 //! Requests, sound and damaged.
 
 use super::extensions::set_register;
+use super::trees::{any_call, data, near, set_size};
 use super::Maker;
 use crate::checksum::{checksum, sealed};
 use crate::layout::*;
+use crate::mailbox::booted;
 use crate::random::Random;
 use crate::script::{Mail, Op};
+use crate::tree::Act;
 
 /// A code that no command has, most of them near one.
 fn unknown_code(random: &mut Random) -> u32 {
@@ -20,7 +23,6 @@ fn unknown_code(random: &mut Random) -> u32 {
         near ^ (1 << bit),
         near.wrapping_add(1),
         near & 0xFFFF,
-        0x4450_4543,
         0x4944_4543,
         any,
     ]);
@@ -53,10 +55,11 @@ pub(super) fn spoil(random: &mut Random, code: u32, bytes: &mut [u8]) {
 }
 
 /// What is behind the checksum in a request of so many bytes: random, but for an
-/// extension's register.
+/// extension's register and the size of a tree command's data.
 fn body(random: &mut Random, code: u32, length: usize) -> Vec<u8> {
     let mut body = random.bytes(length - CHECKSUM_BYTES);
     set_register(random, code, &mut body);
+    set_size(random, code, &mut body);
     body
 }
 
@@ -69,6 +72,7 @@ impl Maker {
             verdict: self.verdict(yes),
             table,
             bytes,
+            fresh: Vec::new(),
         };
         self.push(Op::Request(mail));
     }
@@ -85,6 +89,7 @@ impl Maker {
 
     pub(super) fn push_stash(&mut self) {
         let stash = self.stash();
+        self.caller = stash.caller;
         let table = self.idle_table();
         let yes = self.random.once_in(2);
         let verdict = self.verdict(yes);
@@ -150,11 +155,12 @@ impl Maker {
 
     /// A request of any command, accepted if the unit is ready for it.
     pub(super) fn push_any_request(&mut self) {
-        match self.random.below(8) {
+        match self.random.below(10) {
             0..=2 => self.push_stash(),
             3 => self.push_disable(),
             4 => self.push_verify(true),
             5 | 6 => self.push_extension(),
+            7 | 8 => self.push_call(),
             _ => self.push_request(IDENTITY, &[], Vec::new(), true),
         }
     }
@@ -169,13 +175,7 @@ impl Maker {
                 let code = unknown_code(&mut self.random);
                 self.push_request(code, &body, Vec::new(), yes);
             }
-            1 => {
-                let length = self
-                    .random
-                    .pick(&[0, 3, 5, 8, 55, 57, 59, 61, 195, 197, 260]);
-                let bytes = self.of_length(command.code, length);
-                self.push_mail(command.code, bytes, Vec::new(), yes);
-            }
+            1 => self.push_wrong_length(command.code, yes),
             2 | 3 => {
                 let mut bytes = sealed(command.code, &body);
                 spoil(&mut self.random, command.code, &mut bytes);
@@ -188,6 +188,19 @@ impl Maker {
             5 => self.push_outside(),
             _ => self.push_verify(false),
         }
+    }
+
+    /// A request that is too short or too long.
+    fn push_wrong_length(&mut self, code: u32, yes: bool) {
+        let length = self
+            .random
+            .pick(&[0, 3, 5, 8, 55, 57, 59, 61, 195, 197, 260]);
+        let bytes = match length {
+            // The size is larger than any.
+            INVOKE_DATA.. if code == INVOKE => sealed(code, &vec![0xFF; length - CHECKSUM_BYTES]),
+            _ => self.of_length(code, length),
+        };
+        self.push_mail(code, bytes, Vec::new(), yes);
     }
 
     /// A request of so many bytes, its checksum right for them.
@@ -294,6 +307,23 @@ impl Maker {
     }
 }
 
+/// What is behind the checksum in a tree command for the small program: at a node
+/// of its unit, mostly.
+fn program_call(random: &mut Random) -> Vec<u8> {
+    let mut call = any_call(random, &booted());
+    if random.once_in(4) {
+        call.handle = near(random, &call.handle);
+    }
+    if random.once_in(4) {
+        call.act = random.pick(&[Act::Rotate, Act::Destroy, Act::Extend { digest: ZERO }]);
+    }
+    let mut data = data(&call);
+    if random.once_in(4) {
+        data.truncate(random.below(data.len()));
+    }
+    [&(data.len() as u32).to_le_bytes()[..], &data].concat()
+}
+
 /// An input of the small program.
 pub fn program_input(seed: u64) -> Vec<u8> {
     let mut random = Random::from_seed(seed ^ 0x6D61_696C_626F_7800);
@@ -305,6 +335,9 @@ pub fn program_input(seed: u64) -> Vec<u8> {
     let mut body = body(&mut random, code, request_bytes);
     if random.once_in(3) {
         body.fill(0);
+    }
+    if code == INVOKE && !random.once_in(4) {
+        body = program_call(&mut random);
     }
     let mut bytes = sealed(code, &body);
     let mut first = code;

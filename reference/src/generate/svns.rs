@@ -28,6 +28,7 @@ pub(super) fn mail(stash: &Stash) -> Mail {
         verdict: 0,
         table: Vec::new(),
         bytes: sealed(STASH, &body),
+        fresh: Vec::new(),
     }
 }
 

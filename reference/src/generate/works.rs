@@ -19,10 +19,14 @@ impl Maker {
     /// Opens a work: its kind and the length of its answer.
     fn open_some(&mut self) -> (Sort, usize) {
         let answer = |code: u32| command(code).map_or(0, |command| command.answer_bytes);
-        match self.random.below(12) {
+        match self.random.below(13) {
             0..=2 => {
                 self.push_stash();
                 (Sort::Stash, answer(STASH))
+            }
+            12 => {
+                self.push_call();
+                (Sort::Derive, answer(INVOKE))
             }
             3 => {
                 self.push_disable();

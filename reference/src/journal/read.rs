@@ -9,17 +9,22 @@ use std::io::{self, BufReader, Read};
 pub enum Form {
     Number,
     Digest,
+    Handle,
 }
 
-use Form::{Digest as D, Number as N};
+use Form::{Digest as D, Handle as H, Number as N};
 
 /// The values behind each kind that is listed.
-const FORMS: [(u8, &[Form]); 5] = [
+const FORMS: [(u8, &[Form]); 9] = [
     (COLD_ENTRY, &[D, D]),
     (UPDATE_ENTRY, &[D, D]),
     (DISABLING_ENTRY, &[]),
     (STASH_ENTRY, &[N, D, N, N]),
     (EXTENSION_ENTRY, &[N, D]),
+    (DERIVE_ENTRY, &[H, N, N, D, H, N]),
+    (REMEASURE_ENTRY, &[H, D, N]),
+    (ROTATE_ENTRY, &[H, H, N]),
+    (DESTROY_ENTRY, &[H, N]),
 ];
 
 /// The journal's bytes as they come.
@@ -94,15 +99,28 @@ pub trait Reads {
         match form {
             Form::Number => self.number(bytes).map(Value::Number),
             Form::Digest => self.digest(bytes).map(Value::Digest),
+            Form::Handle => self.handle(bytes).map(Value::Handle),
         }
     }
 
     fn digest(&self, bytes: &mut Bytes) -> Result<Digest, u32> {
         let mut digest = [0; DIGEST_BYTES];
-        for byte in &mut digest {
+        self.fill(bytes, &mut digest)?;
+        Ok(digest)
+    }
+
+    fn handle(&self, bytes: &mut Bytes) -> Result<Handle, u32> {
+        let mut handle = [0; HANDLE_BYTES];
+        self.fill(bytes, &mut handle)?;
+        Ok(handle)
+    }
+
+    /// Plain bytes that have to be there.
+    fn fill(&self, bytes: &mut Bytes, plain: &mut [u8]) -> Result<(), u32> {
+        for byte in plain {
             *byte = self.must(bytes)?;
         }
-        Ok(digest)
+        Ok(())
     }
 
     /// A number; the first byte that none could have at its place decides.

@@ -101,9 +101,9 @@ fn the_first_impossible_byte_decides() {
 }
 
 #[test]
-fn only_five_kinds_are_listed() {
+fn only_nine_kinds_are_listed() {
     for kind in 0..=255 {
-        assert_eq!(Reader.forms(kind).is_some(), (1..=5).contains(&kind));
+        assert_eq!(Reader.forms(kind).is_some(), (1..=9).contains(&kind));
     }
 }
 
@@ -122,8 +122,18 @@ fn a_disabling_is_one_byte() {
 
 #[test]
 fn the_order_of_values() {
-    let kinds = [1, 2, 3, 4, 5].map(|kind| Reader.forms(kind).unwrap_or_default());
-    let (n, d) = (Form::Number, Form::Digest);
-    let expected: [&[Form]; 5] = [&[d, d], &[d, d], &[], &[n, d, n, n], &[n, d]];
+    let kinds: Vec<_> = (1..=9).flat_map(|kind| Reader.forms(kind)).collect();
+    let (n, d, h) = (Form::Number, Form::Digest, Form::Handle);
+    let expected: [&[Form]; 9] = [
+        &[d, d],
+        &[d, d],
+        &[],
+        &[n, d, n, n],
+        &[n, d],
+        &[h, n, n, d, h, n],
+        &[h, d, n],
+        &[h, h, n],
+        &[h, n],
+    ];
     assert_eq!(kinds, expected);
 }

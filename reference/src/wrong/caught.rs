@@ -19,13 +19,14 @@ pub struct Caught {
 /// A script and what the right engine writes for it.
 type Played = (Vec<u8>, Vec<u8>);
 
-/// Plays every wrong engine until it is caught, `count` scripts at most.
-pub fn caught(count: u64, mut each: impl FnMut(&Caught)) {
+/// Plays every wrong engine until it is caught, `count` scripts at most. The book
+/// is kept beside it for so many scripts, and for as long as it is not caught.
+pub fn caught(count: u64, with_book: u64, mut each: impl FnMut(&Caught)) {
     let mut played = Vec::new();
     for group in GROUPS {
         for &wrong in group.engines {
             each(&match group.shown {
-                Shown::ByScripts => of_entries(wrong, count, &mut played),
+                Shown::ByScripts => of_entries(wrong, count, with_book, &mut played),
                 Shown::ByProgram => {
                     of_program(wrong, count, |ran, right| ran.output != right.output)
                 }
@@ -50,10 +51,7 @@ fn of_program(wrong: Wrong, count: u64, shows: fn(&Ran, &Ran) -> bool) -> Caught
     }
 }
 
-/// The book is looked at for as long, and a little longer.
-const BOOK_SCRIPTS: u64 = 200;
-
-fn of_entries(wrong: Wrong, count: u64, played: &mut Vec<Played>) -> Caught {
+fn of_entries(wrong: Wrong, count: u64, with_book: u64, played: &mut Vec<Played>) -> Caught {
     let mut caught = Caught {
         wrong,
         scripts: None,
@@ -66,13 +64,13 @@ fn of_entries(wrong: Wrong, count: u64, played: &mut Vec<Played>) -> Caught {
             played.push((input, output));
         }
         let (input, output) = &played[seed as usize];
-        if caught.book.is_none() && Player::new(wrong.engine).run(input).is_err() {
+        if with_book > 0 && caught.book.is_none() && Player::new(wrong.engine).run(input).is_err() {
             caught.book = Some(seed + 1);
         }
         if caught.scripts.is_none() && play_unwatched(wrong.engine, input) != *output {
             caught.scripts = Some(seed + 1);
         }
-        if caught.scripts.is_some() && (caught.book.is_some() || seed >= BOOK_SCRIPTS) {
+        if caught.scripts.is_some() && (caught.book.is_some() || seed >= with_book) {
             break;
         }
     }

@@ -233,15 +233,15 @@ FreeParent: "a parent may be a free node"
 
 TwoHolders: "two holders of the default handle are fine"
 [memory: Memory] {
-    fn has_one_holder(&self, image: &[u32]) -> bool {
-        self.holder(image).is_some()
+    fn has_few_holders(&self, _: &[u32]) -> bool {
+        true
     }
 }
 
-NoHolder: "no holder of the default handle is fine"
+HolderRequired: "without a holder of the default handle a tree is not well formed"
 [memory: Memory] {
-    fn has_one_holder(&self, image: &[u32]) -> bool {
-        count(|index| self.is_holder(image, index)) <= 1
+    fn has_few_holders(&self, image: &[u32]) -> bool {
+        count(|index| self.is_holder(image, index)) == 1
     }
 }
 

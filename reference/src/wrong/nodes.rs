@@ -99,8 +99,8 @@ RootsCountedShort: "roots are counted without the last node"
 
 HoldersCountedShort: "holders of the default handle are counted without the last node"
 [memory: Memory] {
-    fn has_one_holder(&self, image: &[u32]) -> bool {
-        count(|index| index != LAST && self.is_holder(image, index)) == 1
+    fn has_few_holders(&self, image: &[u32]) -> bool {
+        count(|index| index != LAST && self.is_holder(image, index)) <= 1
     }
 }
 
@@ -149,11 +149,10 @@ LastWayNotWalked: "the last node's way to the root is not walked"
     }
 }
 
-LastHandleNotChecked: "the last node may have any handle"
+LastHandleNotChecked: "the last node's handle is not compared with others"
 [memory: Memory] {
-    fn has_handle(&self, image: &[u32], index: usize, wanted: &[u32; HANDLE_WORDS]) -> bool {
-        let any = index == LAST && *wanted == RETIRED_HANDLE;
-        any || Paper.has_handle(image, index, wanted)
+    fn is_alone(&self, image: &[u32], index: usize) -> bool {
+        index == LAST || Paper.is_alone(&ending(image, LAST), index)
     }
 }
 

@@ -8,9 +8,13 @@ use crate::requests::{Accepted, Refusal, Request, Requests, Task, View};
 use crate::work::Work;
 
 /// Moves a number before another.
-pub(super) fn before(mut order: Vec<Refusal>, number: u32, other: u32) -> Vec<Refusal> {
-    let place = |order: &[Refusal], wanted: u32| order.iter().position(|line| line.0 == wanted);
-    if let (Some(from), Some(to)) = (place(&order, number), place(&order, other)) {
+pub(super) fn before<T: PartialEq>(
+    mut order: Vec<(T, bool)>,
+    number: T,
+    other: T,
+) -> Vec<(T, bool)> {
+    let place = |order: &[(T, bool)], wanted: &T| order.iter().position(|line| line.0 == *wanted);
+    if let (Some(from), Some(to)) = (place(&order, &number), place(&order, &other)) {
         let line = order.remove(from);
         order.insert(to, line);
     }

@@ -53,7 +53,7 @@ StashedWhenFull: "PCR31 is extended when no node is free"
 [requests: Requests] {
     fn open(&self, unit: Unit, request: Request) -> Result<Work, u32> {
         let work = Paper.open(unit, request)?;
-        if request.code != STASH || Paper.stash_result(&View::of(unit)) != Ok(DPE_FULL) {
+        if request.code != STASH || Paper.stash_result(&View::of(&unit)) != Ok(DPE_FULL) {
             return Ok(work);
         }
         let answer = &work.answer[..work.answer_bytes as usize];

@@ -46,8 +46,8 @@ impl Script {
         self
     }
 
-    /// A request of caller 7 with verdict yes and no handoff table; its
-    /// checksum is put in front of the arguments.
+    /// A request of caller 7 with verdict yes, no handoff table and no fresh
+    /// handle; its checksum is put in front of the arguments.
     pub fn request(mut self, code: u32, arguments: &[u8]) -> Self {
         let sum = reference::checksum::checksum(code, arguments);
         let mut request = sum.to_le_bytes().to_vec();
@@ -56,8 +56,9 @@ impl Script {
         self.bytes.extend(code.to_le_bytes());
         self.bytes.extend(7u32.to_le_bytes());
         self.bytes.push(1);
-        put_field(&mut self.bytes, &[]);
-        put_field(&mut self.bytes, &request);
+        for field in [&[], &request[..], &[]] {
+            put_field(&mut self.bytes, field);
+        }
         self
     }
 

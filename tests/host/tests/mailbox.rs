@@ -27,6 +27,7 @@ const DISABLE: [u8; 4] = *b"LBSD";
 const IDENTITY_KEY: [u8; 4] = *b"IEDI";
 const VERIFY: [u8; 4] = *b"VGIS";
 const EXTEND: [u8; 4] = *b"ERCP";
+const INVOKE: [u8; 4] = *b"CEPD";
 
 /// Card 10.
 const CARD_10: [u8; 8] = [0x4C, 0x42, 0x53, 0x44, 0xDB, 0xFE, 0xFF, 0xFF];
@@ -195,6 +196,54 @@ fn extension_with_one_bit_changed() {
         input[at] ^= 1 << random.between(0, 7);
         writes(&input, &BAD_CHECKSUM);
     }
+}
+
+/// A command to the tree, with the right checksum.
+fn invoke(data: &[u8]) -> Vec<u8> {
+    let size = u32::try_from(data.len()).expect("a size").to_le_bytes();
+    sealed(INVOKE, &[&size, data].concat())
+}
+
+/// Result 0, and the answer of 12 bytes with that dpe result.
+fn declined(data: &[u8], result: u32) {
+    let checksum = 0u32.wrapping_sub(result);
+    let output = [0, checksum, 0, result].map(u32::to_le_bytes).concat();
+    writes(&invoke(data), &output);
+}
+
+/// The program's caller is the root's, which holds the default handle, and it lends no fresh handle.
+#[test]
+fn tree_commands_without_a_fresh_handle() {
+    let (root, other) = ([0; 20], [1; 20]);
+    let derive = |handle: &[u8], retain| [&[1][..], handle, &[retain, 7], &[0x66; 48]].concat();
+    let extend = |handle: &[u8]| [&[2][..], handle, &[0x66; 48]].concat();
+    let named = |command, handle: &[u8]| [&[command][..], handle].concat();
+    for retain in [0, 1] {
+        declined(&derive(&root, retain), 8);
+        declined(&derive(&other, retain), 6);
+    }
+    declined(&derive(&root, 2), 5);
+    declined(&extend(&root), 9);
+    declined(&extend(&other), 6);
+    declined(&named(3, &root), 8);
+    declined(&named(3, &[0xFF; 20]), 6);
+    declined(&named(4, &root), 9);
+    declined(&named(4, &other), 6);
+    declined(&named(5, &root), 5);
+    declined(&[], 5);
+    declined(&[0; 1024], 5);
+}
+
+#[test]
+fn tree_commands_of_other_lengths() {
+    let whole = invoke(&[0; 21]);
+    for end in 4..whole.len() {
+        writes(&whole[..end], &WRONG_LENGTH);
+    }
+    writes(&invoke(&[0; 1025]), &WRONG_LENGTH);
+    let mut changed = whole.clone();
+    changed[20] ^= 1;
+    writes(&changed, &BAD_CHECKSUM);
 }
 
 // ---- short reads

@@ -7,6 +7,9 @@ use Rattle.held.proofs.answering.Tie as tie
 kind-in-requires : tie.Need-kind-in-requires
 kind-in-requires c κs = tt
 
+node-in-requires : tie.Need-node-in-requires
+node-in-requires c κs = tt
+
 answer-in-requires : tie.Need-answer-in-requires
 answer-in-requires c κs = tt
 
@@ -18,13 +21,16 @@ answer-len-in-requires c κs = tt
 
 returns : tie.Need-returns
 unfolding workOf answeringOf zeros
-returns c = rw (c .answer-len-in .ensures, c .before .position-in .ensures, c .before .before .answer-in .ensures, c .before .before .before .kind-in .ensures)
+returns c =
+    let c3 = c .before .before .before in
+    rw (c .answer-len-in .ensures, c .before .position-in .ensures, c .before .before .answer-in .ensures, c3 .node-in .ensures, c3 .before .kind-in .ensures)
 
 pub answering-spec : {M : Type 1} → statement M
 answering-spec =
     tie.close
     (tie.spec
     kind-in-requires
+    node-in-requires
     answer-in-requires
     position-in-requires
     answer-len-in-requires

@@ -1,10 +1,12 @@
 -- `left` meets its contract: what is left of the parts is left of the work that the words are. Assumes nothing.
 use native.Mathlib.Omega.{arith}
+use mathlib.Core.Path.{_≡_, _∙_}
 use lib.ListN.{length}
 use borrow.Author.Tests.{eq-eqb, ne-eqb}
-use Rattle.work.proofs.Parts.{left-standing}
-use Rattle.flat.specs.Flat.{workSize, workOf}
+use Rattle.flat.specs.Flat.{workSize}
 use Rattle.flat.specs.Forms.{leftIn}
+use Rattle.held.proofs.Stored.{left-parts}
+use borrow.Author.Needs.{needs}
 use Rattle.held.proofs.left.Statement.{statement}
 use Rattle.held.proofs.left.Tie as tie
 
@@ -21,6 +23,15 @@ position-in-requires c κs = tt
 answer-len-in-requires : tie.Need-answer-len-in-requires
 answer-len-in-requires c κs = tt
 
+sub-left : tie.Need-sub-left
+sub-left c = search needs
+
+part-left-start : tie.Need-part-left-start
+part-left-start c = search needs
+
+part-left-end : tie.Need-part-left-end
+part-left-end c = search needs
+
 left-requires : tie.Need-left-requires
 left-requires c κs = tt
 
@@ -29,14 +40,11 @@ unfolding leftIn
 returns-2 c =
     let c2 = c .before .before in
     let c3 = c2 .before in
-    let c6 = c3 .before .before .before in
-    rw (
-      eq-eqb (length (c6 .args .work .now)) workSize (omega arith),
-      c .left .ensures,
-      c .before .answer-len-in .ensures,
-      c2 .position-in .ensures,
-      c3 .kind-in .ensures,
-    ) (left-standing (workOf (c6 .args .work .now)))
+    let c4 = c3 .before in
+    let l = c4 .before .before .before .args .work .now in
+    let e : length l ≡ workSize = omega arith in
+    rw (eq-eqb (length l) workSize e)
+    (c .left .ensures ∙ left-parts l e _ _ _ (c4 .kind-in .ensures) (c3 .position-in .ensures) (c2 .answer-len-in .ensures))
 
 pub left-spec : {M : Type 1} → statement M
 left-spec =
@@ -46,5 +54,8 @@ left-spec =
     kind-in-requires
     position-in-requires
     answer-len-in-requires
+    sub-left
+    part-left-start
+    part-left-end
     left-requires
     returns-2)

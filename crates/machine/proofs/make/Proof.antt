@@ -35,7 +35,7 @@ unfolding actOf
 returns c =
     rw (c .before .before .match .keys1)
     (made (c .request-call .result) _ _ (c .request-call .ensures)
-    (c .before .before .before .before .before .before .before .before .before .before .args .buffer .now))
+    (c .before .before .before .before .before .before .before .before .before .before .before .args .buffer .now))
 
 same-length-2 : tie.Need-same-length-2
 same-length-2 c = search needs
@@ -45,7 +45,7 @@ unfolding actOf
 returns-2 c =
     rw (c .before .before .match .keys2)
     (made (c .update-boot-call .result) _ _ (c .update-boot-call .ensures)
-    (c .before .before .before .before .before .before .before .before .before .before .args .buffer .now))
+    (c .before .before .before .before .before .before .before .before .before .before .before .args .buffer .now))
 
 same-length-3 : tie.Need-same-length-3
 same-length-3 c = search needs
@@ -55,7 +55,7 @@ unfolding actOf
 returns-3 c =
     rw (c .before .before .before .before .match .keys3)
     (made (c .before .before .store-call .result) _ _ (c .before .before .store-call .ensures)
-    (c .before .before .before .before .before .before .before .before .before .before .before .before .args .buffer .now))
+    (c .before .before .before .before .before .before .before .before .before .before .before .before .before .args .buffer .now))
 
 same-length-4 : tie.Need-same-length-4
 same-length-4 c = search needs
@@ -65,7 +65,7 @@ unfolding actOf
 returns-4 c =
     rw (c .before .before .match .keys4)
     (made (c .cold-boot-call .result) _ _ (c .cold-boot-call .ensures)
-    (c .before .before .before .before .before .before .before .before .before .before .args .buffer .now))
+    (c .before .before .before .before .before .before .before .before .before .before .before .args .buffer .now))
 
 same-length-5 : tie.Need-same-length-5
 same-length-5 c = search needs
@@ -73,7 +73,7 @@ same-length-5 c = search needs
 returns-5 : tie.Need-returns-5
 unfolding actOf
 returns-5 c =
-    let image = c .before .before .before .before .before .before .before .before .before .before .before .before .args .image .now in
+    let image = c .before .before .before .before .before .before .before .before .before .before .before .before .before .args .image .now in
     rw (c .before .before .before .before .match .keys5) (c .before .before .answer-call .ensures .0 image, c .before .before .answer-call .ensures .1 image)
 
 same-length-6 : tie.Need-same-length-6
@@ -82,13 +82,13 @@ same-length-6 c = search needs
 returns-6 : tie.Need-returns-6
 unfolding actOf
 returns-6 c =
-    let image = c .before .before .before .before .before .before .before .before .before .before .before .before .args .image .now in
+    let image = c .before .before .before .before .before .before .before .before .before .before .before .before .before .args .image .now in
     rw (c .before .before .before .before .match .keys6) (c .before .before .entry-call .ensures .0 image, c .before .before .entry-call .ensures .1 image)
 
 returns-7 : tie.Need-returns-7
 unfolding actOf
 returns-7 c =
-    let a = c .before .before .before .before .before .before .before .before .before .args in
+    let a = c .before .before .before .before .before .before .before .before .before .before .args in
     let r = c .before .match .rest in
     rw (
       ne-eqb (a .op) 0 (r .0 .0 .0 .0 .0 .1),

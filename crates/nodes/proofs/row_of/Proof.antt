@@ -6,7 +6,7 @@ use Prim.Native.Nat.{ℕ, _-_, _≤_}
 use mathlib.Core.List.{List}
 use lib.ListN.{length, getD, take, length-set}
 use Rattle.layout.specs.Sizes.{registerWords, nodeWords, handleWords}
-use Rattle.layout.specs.Words.{tab, zeros, flat}
+use Rattle.layout.specs.Words.{tab, flat}
 use Rattle.layout.proofs.Tab.{tab-none, tab-more}
 use Rattle.layout.proofs.Packing.{length-words}
 use Rattle.nodes.specs.Record.{fieldsFrom}
@@ -15,12 +15,16 @@ use Rattle.nodes.proofs.row_of.Statement.{statement}
 use Rattle.nodes.proofs.row_of.Tie as tie
 
 abbrev Inv-loop : tie.InvT-loop
-Inv-loop first flags kind locality svn now all row₀ j₀ row j =
+Inv-loop first handle flags kind locality svn now all row₀ j₀ row j =
     (j ≤ nodeWords) × (length row ≡ nodeWords) × (take j row ≡ tab j
-    (λ i. getD (flat (fieldsFrom first 0 (zeros handleWords) flags now all kind locality svn)) i 0))
+    (λ i. getD (flat (fieldsFrom first 0 handle flags now all kind locality svn)) i 0))
 
 abbrev μ-loop : tie.MeasureT-loop
-μ-loop first flags kind locality svn now all row₀ j₀ row j = nodeWords - j
+μ-loop first handle flags kind locality svn now all row₀ j₀ row j = nodeWords - j
+
+-- by the parameter's type
+long : (g : tie.Start Inv-loop μ-loop) → length (g .args .handle) ≡ handleWords
+long g = search needs
 
 slice-aggregate-pack : tie.Need-slice-aggregate-pack Inv-loop μ-loop
 slice-aggregate-pack c = search needs
@@ -40,7 +44,7 @@ loop-holds c =
       omega arith,
       refl,
       tab-none (λ i. getD
-          (flat (fieldsFrom (a .first) 0 (zeros handleWords) (a .flags) (c .before .before .pack .result) (c .pack2 .result) (a .kind) (a .locality) (a .svn))) i 0),
+          (flat (fieldsFrom (a .first) 0 (a .handle) (a .flags) (c .before .before .pack .result) (c .pack2 .result) (a .kind) (a .locality) (a .svn))) i 0),
     )
 
 row-word-requires : tie.Need-row-word-requires Inv-loop μ-loop
@@ -64,7 +68,7 @@ loop-again c =
     let l = c .before .before .loop in
     let current = c .before .before .before .before .before .pack .result in
     let cumulative = c .before .before .before .pack2 .result in
-    let fields = fieldsFrom (a .first) 0 (zeros handleWords) (a .flags) current cumulative (a .kind) (a .locality) (a .svn) in
+    let fields = fieldsFrom (a .first) 0 (a .handle) (a .flags) current cumulative (a .kind) (a .locality) (a .svn) in
     (omega arith, simp length-set (l .inv .1), tab-more (λ i. getD (flat fields) i 0) (l .row) (l .j) _ (omega arith) (c .row-word .ensures) (l .inv .2))
 
 returns : tie.Need-returns Inv-loop μ-loop
@@ -74,12 +78,12 @@ returns c =
     let e : l .j ≡ nodeWords = omega arith in
     let now = c .before .before .before .before .pack .result in
     let all = c .before .before .pack2 .result in
-    let f : ℕ → List ℕ = λ n. tab n (λ i. getD (flat (fieldsFrom (a .first) 0 (zeros handleWords) (a .flags) now all (a .kind) (a .locality) (a .svn))) i 0) in
-    raw-filled (a .first) (a .flags) (a .kind) (a .locality) (a .svn) now all
-    (ap length (c .before .before .before .before .pack .ensures) ∙ length-words registerWords (a .t3) 0)
-    (ap length (c .before .before .pack2 .ensures) ∙ length-words registerWords (a .t4) 0)
+    let f : ℕ → List ℕ = λ n. tab n (λ i. getD (flat (fieldsFrom (a .first) 0 (a .handle) (a .flags) now all (a .kind) (a .locality) (a .svn))) i 0) in
+    raw-filled (a .first) (a .handle) (a .flags) (a .kind) (a .locality) (a .svn) now all (long (c .before .before .before .before .before .before))
+    (ap length (c .before .before .before .before .pack .ensures) ∙ length-words registerWords (a .t4) 0)
+    (ap length (c .before .before .pack2 .ensures) ∙ length-words registerWords (a .t5) 0)
     (l .row) (l .inv .1) (ap (λ (n : ℕ). take n (l .row)) (sym e) ∙ l .inv .2 ∙ ap f e)
-    ∙ ap₂ (λ (x y : List ℕ). flat (fieldsFrom (a .first) 0 (zeros handleWords) (a .flags) x y (a .kind) (a .locality) (a .svn)))
+    ∙ ap₂ (λ (x y : List ℕ). flat (fieldsFrom (a .first) 0 (a .handle) (a .flags) x y (a .kind) (a .locality) (a .svn)))
     (c .before .before .before .before .pack .ensures) (c .before .before .pack2 .ensures)
 
 pub row-of-spec : {M : Type 1} → statement M

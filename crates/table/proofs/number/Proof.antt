@@ -23,6 +23,24 @@ enum-told-5 c = search needs
 enum-told-6 : tie.Need-enum-told-6
 enum-told-6 c = search needs
 
+enum-told-7 : tie.Need-enum-told-7
+enum-told-7 c = search needs
+
+enum-told-8 : tie.Need-enum-told-8
+enum-told-8 c = search needs
+
+enum-told-9 : tie.Need-enum-told-9
+enum-told-9 c = search needs
+
+enum-told-10 : tie.Need-enum-told-10
+enum-told-10 c = search needs
+
+enum-known-kind : tie.Need-enum-known-kind
+enum-known-kind c = search needs
+
+destroy-stores-requires : tie.Need-destroy-stores-requires
+destroy-stores-requires c κs = search needs
+
 returns : tie.Need-returns
 unfolding numberOf
 returns c = search needs
@@ -47,6 +65,25 @@ returns-6 : tie.Need-returns-6
 unfolding numberOf
 returns-6 c = search needs
 
+returns-7 : tie.Need-returns-7
+unfolding numberOf
+returns-7 c = search needs
+
+returns-8 : tie.Need-returns-8
+unfolding numberOf
+returns-8 c = search needs
+
+returns-9 : tie.Need-returns-9
+unfolding numberOf
+returns-9 c = search needs
+
+returns-10 : tie.Need-returns-10
+unfolding numberOf
+returns-10 c = search needs
+
+returns-11 : tie.Need-returns-11
+returns-11 c = rw (c .before .before .kind .given .1) (c .destroy-stores .ensures)
+
 pub number-spec : {M : Type 1} → statement M
 number-spec =
     tie.close
@@ -57,9 +94,20 @@ number-spec =
     enum-told-4
     enum-told-5
     enum-told-6
+    enum-told-7
+    enum-told-8
+    enum-told-9
+    enum-told-10
+    enum-known-kind
+    destroy-stores-requires
     returns
     returns-2
     returns-3
     returns-4
     returns-5
-    returns-6)
+    returns-6
+    returns-7
+    returns-8
+    returns-9
+    returns-10
+    returns-11)

@@ -2,6 +2,7 @@
 //! each of them.
 
 use super::*;
+use crate::book::tree::derived;
 use crate::book::{root, runtime_then_manifest, stashed, Node};
 use crate::journal::read::Form;
 
@@ -223,6 +224,7 @@ EntryBeforeForm: "an entry that is cut is 22, whatever its numbers"
             whole.extend(match form {
                 Form::Number => number_bytes(bytes, NUMBER_BYTES as usize)?,
                 Form::Digest => self.digest(bytes)?.to_vec(),
+                Form::Handle => self.handle(bytes)?.to_vec(),
             });
         }
         let mut again = Bytes::new(&whole[..]);
@@ -294,10 +296,342 @@ KindZeroSkipped: "a byte 00 between entries is skipped"
     }
 }
 
-KindSixTaken: "kind 6 is taken for a disabling"
+KindTenTaken: "kind 10 is taken for a disabling"
 [reads] {
     fn forms(&self, kind: u8) -> Option<&'static [Form]> {
-        Inspector.forms(if kind == 6 { DISABLING_ENTRY } else { kind })
+        Inspector.forms(if kind == 10 { DISABLING_ENTRY } else { kind })
+    }
+}
+
+KindsAsBefore: "kinds 6 to 9 are not listed"
+[reads] {
+    fn forms(&self, kind: u8) -> Option<&'static [Form]> {
+        Inspector.forms(kind).filter(|_| kind < DERIVE_ENTRY)
+    }
+}
+
+CallerBeforeFresh: "a tree command's caller comes before the fresh handle"
+[reads] {
+    fn forms(&self, kind: u8) -> Option<&'static [Form]> {
+        use Form::{Digest as D, Handle as H, Number as N};
+        match kind {
+            DERIVE_ENTRY => Some(&[H, N, N, D, N, H]),
+            ROTATE_ENTRY => Some(&[H, N, H]),
+            _ => Inspector.forms(kind),
+        }
+    }
+}
+
+TypeBeforeRetain: "a derive's type comes before retain"
+[replays] {
+    fn event(&self, entry: &Entry) -> Event {
+        let mut entry = entry.clone();
+        if entry.kind == DERIVE_ENTRY {
+            entry.values.swap(1, 2);
+        }
+        Inspector.event(&entry)
+    }
+}
+
+HandlesExchanged: "a rotate's handles are exchanged"
+[replays] {
+    fn event(&self, entry: &Entry) -> Event {
+        let mut entry = entry.clone();
+        if entry.kind == ROTATE_ENTRY {
+            entry.values.swap(0, 1);
+        }
+        Inspector.event(&entry)
+    }
+}
+
+RetainIsForm: "a retain above 1 is 21"
+[reads] {
+    fn entry_of(&self, kind: u8, bytes: &mut Bytes) -> Result<Entry, u32> {
+        let entry = Inspector.entry_of(kind, bytes)?;
+        match entry.values.get(1) {
+            Some(Value::Number(2..)) if kind == DERIVE_ENTRY => Err(number::GROUPS),
+            _ => Ok(entry),
+        }
+    }
+}
+
+RetainAboveOne: "a retain above 1 is 1"
+[replays] {
+    fn is_retain(&self, _: u32) -> bool {
+        true
+    }
+}
+
+RetainTurned: "retain is taken the other way round"
+[replays] {
+    fn reading(&self) -> Reading {
+        Reading {
+            called: |state, node, call, reading| {
+                let mut call = call.clone();
+                if let Act::Derive { retain, .. } = &mut call.act {
+                    *retain = u32::from(*retain == 0);
+                }
+                state.called(node, &call, reading);
+            },
+            ..Reading::PAPER
+        }
+    }
+}
+
+HandleIs20: "a handle that no node has is 20"
+[replays] {
+    fn next(&self, standing: &Standing, journal: &mut Bytes) -> Result<Option<Event>, u32> {
+        let Some(entry) = self.entry(journal)? else {
+            return Ok(None);
+        };
+        let event = self.event(&entry);
+        let unheld = matches!(&event, Event::Tree(call) if standing.state.with_handle(&call.handle).is_none());
+        match self.could_count(standing, &event) {
+            true => Ok(Some(event)),
+            false if unheld => Err(number::KIND),
+            false => Err(number::UNCOUNTED),
+        }
+    }
+}
+
+UnheldSkipped: "a tree command whose handle no node has is skipped"
+[replays] {
+    fn could_call(&self, state: &State, call: &TreeCall) -> bool {
+        state.with_handle(&call.handle).is_none() || Inspector.could_call(state, call)
+    }
+    fn counted(&self, before: Standing, event: &Event) -> Standing {
+        let can = match event {
+            Event::Tree(call) => before.state.with_handle(&call.handle).is_some(),
+            _ => true,
+        };
+        counted_or_not(before, event, can)
+    }
+}
+
+CallWhileOff: "a tree command may come after a disabling"
+[replays] {
+    fn goes_off(&self, event: &Event) -> bool {
+        Inspector.goes_off(event) || matches!(event, Event::Tree(_))
+    }
+}
+
+AnyCaller: "a tree command's caller is not compared"
+[replays] {
+    fn may_call(&self, _: &State, _: usize, _: u32) -> bool {
+        true
+    }
+}
+
+CallerZeroCalls: "caller 0 may call at every node"
+[replays] {
+    fn may_call(&self, state: &State, node: usize, caller: u32) -> bool {
+        caller == 0 || Inspector.may_call(state, node, caller)
+    }
+}
+
+FreshNotLookedAt: "any fresh handle is taken"
+[replays] {
+    fn is_fresh(&self, _: &State, _: &TreeCall) -> bool {
+        true
+    }
+}
+
+FreshZeroTaken: "a fresh handle of zeros is taken if no node has it"
+[replays] {
+    fn is_fresh(&self, state: &State, call: &TreeCall) -> bool {
+        let none = call.fresh == DEFAULT && state.with_handle(&DEFAULT).is_none();
+        none || Inspector.is_fresh(state, call)
+    }
+}
+
+FreshRetiredTaken: "a fresh handle of all 0xFF is taken"
+[replays] {
+    fn is_fresh(&self, state: &State, call: &TreeCall) -> bool {
+        call.fresh == RETIRED || Inspector.is_fresh(state, call)
+    }
+}
+
+FreshInUseTaken: "a fresh handle may be in use"
+[replays] {
+    fn is_fresh(&self, _: &State, call: &TreeCall) -> bool {
+        call.fresh != DEFAULT && call.fresh != RETIRED
+    }
+}
+
+FullDeriveSkipped: "a derive with no free node is skipped"
+[replays] {
+    fn has_room_below(&self, _: &State) -> bool {
+        true
+    }
+    fn counted(&self, before: Standing, event: &Event) -> Standing {
+        let derives = matches!(event, Event::Tree(call) if call.act.is_derive());
+        let can = !derives || before.state.has_room();
+        counted_or_not(before, event, can)
+    }
+}
+
+RootExtended: "the root may be extended"
+[replays] {
+    fn may_extend(&self, _: &State, _: usize) -> bool {
+        true
+    }
+}
+
+RootDestroyed: "the root may be destroyed"
+[replays] {
+    fn may_destroy(&self, state: &State, node: usize) -> bool {
+        !state.has_child(node)
+    }
+    fn counted(&self, before: Standing, event: &Event) -> Standing {
+        let can = before.state.nodes[0].is_some() || is_cold(event);
+        counted_or_not(before, event, can)
+    }
+}
+
+ParentDestroyed: "a node with children may be destroyed"
+[replays] {
+    fn may_destroy(&self, state: &State, node: usize) -> bool {
+        !state.is_root(node)
+    }
+}
+
+NoHolderSkipped: "a stash without a holder is skipped"
+[replays] {
+    fn has_holder(&self, _: &State) -> bool {
+        true
+    }
+    fn counted(&self, before: Standing, event: &Event) -> Standing {
+        let can = !is_stash(event) || Inspector.has_holder(&before.state);
+        counted_or_not(before, event, can)
+    }
+}
+
+ReplayFreesAlone: "a destroy frees its node alone"
+[replays] {
+    fn reading(&self) -> Reading {
+        Reading {
+            goes: |_| false,
+            ..Reading::PAPER
+        }
+    }
+}
+
+ReplayFreesLive: "a destroy frees live ancestors that are left childless, too"
+[replays] {
+    fn reading(&self) -> Reading {
+        Reading {
+            goes: |node| node.parent.is_some(),
+            ..Reading::PAPER
+        }
+    }
+}
+
+ReplayFreesRoot: "a destroy frees a retired root that is left childless, too"
+[replays] {
+    fn reading(&self) -> Reading {
+        Reading {
+            goes: |node| node.handle.is_none(),
+            ..Reading::PAPER
+        }
+    }
+    fn counted(&self, before: Standing, event: &Event) -> Standing {
+        let can = before.state.nodes[0].is_some() || is_cold(event);
+        if can {
+            let state = before.state.clone().after(event, self.reading());
+            return Standing { state, ..Inspector.counted(before, event) };
+        }
+        counted_or_not(before, event, can)
+    }
+}
+
+ReplayChildHasDefault: "a derived child has the default handle if its parent had it"
+[replays] {
+    fn reading(&self) -> Reading {
+        Reading {
+            derived: |parent, call| Node {
+                handle: Some(if call.handle == DEFAULT { DEFAULT } else { call.fresh }),
+                ..derived(parent, call)
+            },
+            ..Reading::PAPER
+        }
+    }
+}
+
+ReplayChildSvn: "a derived child has its type as the svn"
+[replays] {
+    fn reading(&self) -> Reading {
+        Reading {
+            derived: |parent, call| {
+                let child = derived(parent, call);
+                Node { svn: child.kind, ..child }
+            },
+            ..Reading::PAPER
+        }
+    }
+}
+
+ReplayChildOfRoot: "a derived child is below the root"
+[replays] {
+    fn reading(&self) -> Reading {
+        Reading {
+            derived: |_, call| derived(0, call),
+            ..Reading::PAPER
+        }
+    }
+}
+
+ReplayExtendAnew: "an extend takes the cumulative from zero"
+[replays] {
+    fn reading(&self) -> Reading {
+        Reading {
+            called: |state, node, call, reading| {
+                state.called(node, call, reading);
+                if let Act::Extend { digest } = call.act {
+                    state.node(node).cumulative = extended(&ZERO, &digest);
+                }
+            },
+            ..Reading::PAPER
+        }
+    }
+}
+
+ReplayExtendLeavesCurrent: "an extend leaves the current measurement"
+[replays] {
+    fn reading(&self) -> Reading {
+        Reading {
+            called: |state, node, call, reading| {
+                let before = state.node(node).current;
+                state.called(node, call, reading);
+                if let Act::Extend { .. } = call.act {
+                    state.node(node).current = before;
+                }
+            },
+            ..Reading::PAPER
+        }
+    }
+}
+
+ReplayDeriveStashes: "a derive extends PCR31"
+[replays] {
+    fn reading(&self) -> Reading {
+        Reading {
+            called: |state, node, call, reading| {
+                state.called(node, call, reading);
+                if let Act::Derive { digest, .. } = call.act {
+                    let stashed = &mut state.registers[STASHED];
+                    *stashed = extended(stashed, &digest);
+                }
+            },
+            ..Reading::PAPER
+        }
+    }
+}
+
+ReplayRotateIgnored: "a rotate changes nothing"
+[replays] {
+    fn counted(&self, before: Standing, event: &Event) -> Standing {
+        let rotates = matches!(event, Event::Tree(call) if call.act == Act::Rotate);
+        counted_or_not(before, event, !rotates)
     }
 }
 
@@ -308,10 +642,10 @@ KindTopBitLost: "the top bit of a kind is not looked at"
     }
 }
 
-KindLowBits: "of a kind only the low three bits are looked at"
+KindLowBits: "of a kind only the low four bits are looked at"
 [reads] {
     fn entry_of(&self, kind: u8, bytes: &mut Bytes) -> Result<Entry, u32> {
-        Inspector.entry_of(kind & 7, bytes)
+        Inspector.entry_of(kind & 15, bytes)
     }
 }
 
@@ -449,6 +783,9 @@ UnbootedStash: "a stash may come before the first cold boot"
 [replays] {
     fn goes_unbooted(&self, event: &Event) -> bool {
         Inspector.goes_unbooted(event) || is_stash(event)
+    }
+    fn has_holder(&self, state: &State) -> bool {
+        state.nodes[0].is_none() || Inspector.has_holder(state)
     }
     fn counted(&self, before: Standing, event: &Event) -> Standing {
         let can = before.state.nodes[0].is_some() || is_cold(event);
@@ -862,7 +1199,7 @@ ReplayStashLeavesHolder: "a stash leaves the old holder's handle"
 [replays] {
     fn counted(&self, before: Standing, event: &Event) -> Standing {
         altered(before, event, is_stash, |_, after| {
-            after.nodes.iter_mut().flatten().for_each(|node| node.holds = true);
+            after.nodes.iter_mut().flatten().for_each(|node| node.handle = Some(DEFAULT));
         })
     }
 }

@@ -31,6 +31,18 @@ read-stash-requires c κs = search needs
 read-extension-requires : tie.Need-read-extension-requires
 read-extension-requires c κs = search needs
 
+read-derive-requires : tie.Need-read-derive-requires
+read-derive-requires c κs = search needs
+
+read-extend-requires : tie.Need-read-extend-requires
+read-extend-requires c κs = search needs
+
+read-rotate-requires : tie.Need-read-rotate-requires
+read-rotate-requires c κs = search needs
+
+read-destroy-requires : tie.Need-read-destroy-requires
+read-destroy-requires c κs = search needs
+
 refused-requires-2 : tie.Need-refused-requires-2
 refused-requires-2 c κs = search needs
 
@@ -50,8 +62,20 @@ returns-6 : tie.Need-returns-6
 returns-6 c = search needs
 
 returns-7 : tie.Need-returns-7
-returns-7 c = let m = c .before .match .rest in
-    c .refused2 .ensures ∙ entry-unlisted (c .before .before .before .before .before .args .s .now) (omega arith) (m .0 .0 .0 .0 .1) (m .0 .0 .0 .1) (m .0 .0 .1) (m .0 .1) (m .1)
+returns-7 c = search needs
+
+returns-8 : tie.Need-returns-8
+returns-8 c = search needs
+
+returns-9 : tie.Need-returns-9
+returns-9 c = search needs
+
+returns-10 : tie.Need-returns-10
+returns-10 c = search needs
+
+returns-11 : tie.Need-returns-11
+returns-11 c = let m = c .before .match .rest in
+    c .refused2 .ensures ∙ entry-unlisted (c .before .before .before .before .before .args .s .now) (omega arith) (m .0 .0 .0 .0 .0 .0 .0 .0 .1) (m .0 .0 .0 .0 .0 .0 .0 .1) (m .0 .0 .0 .0 .0 .0 .1) (m .0 .0 .0 .0 .0 .1) (m .0 .0 .0 .0 .1) (m .0 .0 .0 .1) (m .0 .0 .1) (m .0 .1) (m .1)
 
 pub read-entry-spec : {M : Type 1} → statement M
 read-entry-spec =
@@ -65,10 +89,18 @@ read-entry-spec =
     no-fields-requires
     read-stash-requires
     read-extension-requires
+    read-derive-requires
+    read-extend-requires
+    read-rotate-requires
+    read-destroy-requires
     refused-requires-2
     returns-2
     returns-3
     returns-4
     returns-5
     returns-6
-    returns-7)
+    returns-7
+    returns-8
+    returns-9
+    returns-10
+    returns-11)

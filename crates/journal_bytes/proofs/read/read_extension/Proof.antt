@@ -9,7 +9,7 @@ use Rattle.journal.specs.Entries.{extensionForm}
 use Rattle.layout.specs.Words.{zeros}
 use Rattle.journal_bytes.specs.Results.{partsOf}
 use Rattle.journal_bytes.proofs.Numbers.{number-got, number-not, number-within}
-use Rattle.journal_bytes.proofs.Entries.{digest-got, digest-not, digest-within, form-got, form-refused}
+use Rattle.journal_bytes.proofs.Entries.{plain-got, plain-not, plain-within, form-got, form-refused}
 use Rattle.journal_bytes.proofs.read.read_extension.Statement.{statement}
 use Rattle.journal_bytes.proofs.read.read_extension.Tie as tie
 
@@ -31,7 +31,7 @@ add-digest-at : tie.Need-add-digest-at
 add-digest-at c = omega (arith, number-within (c .before .before .before .before .before .args .s .now) 1 (c .before .before .before .read-number .result) (c .before .before .before .read-number .ensures) (omega arith))
 
 read-digest-requires : tie.Need-read-digest-requires
-read-digest-requires c κs = number-within (c .before .before .before .before .before .args .s .now) 1 (c .before .before .before .read-number .result) (c .before .before .before .read-number .ensures) (omega arith)
+read-digest-requires c κs = search needs
 
 refused-requires-2 : tie.Need-refused-requires-2
 refused-requires-2 c κs = search needs
@@ -44,13 +44,13 @@ returns-2 c = let g = c .before .before .before .before .before .before .before 
     let b = c .before .before .before .read-digest in
     c .refused2 .ensures
     ∙ form-refused s extensionForm (g .pre .0) (g .pre .1) (b .result .number)
-    (rw (number-got s 1 (a .result) (a .ensures) (c .before .before .before .before .before .if1 .left), digest-not s (1 + a .result .taken) (b .result) (b .ensures) (c .before .if2 .taken)))
+    (rw (number-got s 1 (a .result) (a .ensures) (c .before .before .before .before .before .if1 .left), plain-not 48 s (1 + a .result .taken) (b .result .number) (b .ensures .0) (c .before .if2 .taken)))
 
 add-t10 : tie.Need-add-t10
 add-t10 c = let g = c .before .before .before .before .before .before .before .before .before in
     let a = c .before .before .before .before .before .before .before .read-number in
     let b = c .before .before .before .read-digest in
-    omega (arith, digest-within (g .args .s .now) (1 + a .result .taken) (b .result) (b .ensures) (number-within (g .args .s .now) 1 (a .result) (a .ensures) (omega (arith, g .pre .0))) (c .before .if2 .left))
+    omega (arith, plain-within 48 (g .args .s .now) (1 + a .result .taken) (b .result .number) (b .ensures .0) (omega arith) (c .before .if2 .left))
 
 returns-3 : tie.Need-returns-3
 unfolding readFields partsOf zeros
@@ -60,8 +60,8 @@ returns-3 c = let g = c .before .before .before .before .before .before .before 
     let b = c .before .before .before .read-digest in
     let w : 1 + a .result .taken ≤ length s = number-within s 1 (a .result) (a .ensures) (omega (arith, g .pre .0)) in
     form-got s extensionForm (g .pre .0) (g .pre .1) (a .result .value, (b .result .bytes, tt)) (1 + a .result .taken + 48)
-    (rw (number-got s 1 (a .result) (a .ensures) (c .before .before .before .before .before .if1 .left), digest-got s (1 + a .result .taken) (b .result) (b .ensures) (c .before .if2 .left)))
-    (digest-within s (1 + a .result .taken) (b .result) (b .ensures) w (c .before .if2 .left))
+    (rw (number-got s 1 (a .result) (a .ensures) (c .before .before .before .before .before .if1 .left), plain-got 48 s (1 + a .result .taken) (b .result .number) (b .ensures .0) (b .result .bytes) (b .ensures .1) (c .before .if2 .left)))
+    (plain-within 48 s (1 + a .result .taken) (b .result .number) (b .ensures .0) (omega arith) (c .before .if2 .left))
 
 pub read-extension-spec : {M : Type 1} → statement M
 read-extension-spec =

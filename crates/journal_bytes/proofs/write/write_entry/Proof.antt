@@ -19,7 +19,7 @@ put-entry-requires c κs = search needs
 
 returns : tie.Need-returns
 unfolding takenNumber takenResult takenBuffer
-returns c = let g = c .before .before .before .before .before in
+returns c = let g = c .before .before .before .before .before .before .before in
     let e = entryBytes (entryIn (g .args .entry)) in
     let p = c .before .before .put-entry in
     let n : length e ≡ p .result = draft-length _ e (p .result) (p .ensures .0) (omega (arith, p .kept .0, p .ensures .1)) in
@@ -40,7 +40,7 @@ same-length c = search needs
 
 returns-2 : tie.Need-returns-2
 unfolding takenNumber takenResult takenBuffer
-returns-2 c = let g = c .before .before .before .before .before .before .before .before .before .before in
+returns-2 c = let g = c .before .before .before .before .before .before .before .before .before .before .before .before in
     let e = entryBytes (entryIn (g .args .entry)) in
     let b = g .args .buffer .now in
     let p = c .before .before .before .before .before .before .before .put-entry in

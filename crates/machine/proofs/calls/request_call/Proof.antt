@@ -13,7 +13,7 @@ after-request-requires c κs = search needs
 
 returns : tie.Need-returns
 unfolding step machineOf
-returns c = λ b. rw (← c .before .open-request .ensures .0) (c .after-request .ensures (c .before .before .before .before .before .args .image .now) b)
+returns c = λ b. rw (← c .before .open-request .ensures .0) (c .after-request .ensures (c .before .before .before .before .before .before .args .image .now) b)
 
 pub request-call-spec : {M : Type 1} → statement M
 request-call-spec =

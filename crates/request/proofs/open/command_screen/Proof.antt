@@ -1,7 +1,7 @@
 -- By the code: its command's length. Assumes nothing.
 use borrow.Author.Needs.{needs}
 use borrow.Author.Tests.{ne-eqb}
-use Rattle.opening.specs.Rules.{stashCode, disableCode, identityCode, verifyCode, extendCode}
+use Rattle.opening.specs.Rules.{stashCode, disableCode, identityCode, verifyCode, extendCode, invokeCode}
 use Rattle.request.specs.Screen.{screenOf, commandScreen}
 use Rattle.request.proofs.open.command_screen.Statement.{statement}
 use Rattle.request.proofs.open.command_screen.Tie as tie
@@ -41,17 +41,24 @@ returns-5 : tie.Need-returns-5
 unfolding screenOf commandScreen
 returns-5 c = rw (c .before .match .keys5) (rw (c .before .match .keys5) at (c .screen5 .ensures))
 
+screen-invoke-requires : tie.Need-screen-invoke-requires
+screen-invoke-requires c κs = tt
+
 returns-6 : tie.Need-returns-6
+returns-6 c = rw (c .before .match .keys6) (c .screen-invoke .ensures)
+
+returns-7 : tie.Need-returns-7
 unfolding commandScreen
-returns-6 c =
+returns-7 c =
     let code = c .before .before .args .code in
     let r = c .match .rest in
     rw (
-      ne-eqb code stashCode (r .0 .0 .0 .0 .1),
-      ne-eqb code disableCode (r .0 .0 .0 .1),
-      ne-eqb code identityCode (r .0 .0 .1),
-      ne-eqb code verifyCode (r .0 .1),
-      ne-eqb code extendCode (r .1),
+      ne-eqb code stashCode (r .0 .0 .0 .0 .0 .1),
+      ne-eqb code disableCode (r .0 .0 .0 .0 .1),
+      ne-eqb code identityCode (r .0 .0 .0 .1),
+      ne-eqb code verifyCode (r .0 .0 .1),
+      ne-eqb code extendCode (r .0 .1),
+      ne-eqb code invokeCode (r .1),
     )
 
 pub command-screen-spec : {M : Type 1} → statement M
@@ -68,4 +75,6 @@ command-screen-spec =
     returns-4
     screen-requires-5
     returns-5
-    returns-6)
+    screen-invoke-requires
+    returns-6
+    returns-7)

@@ -18,8 +18,8 @@ refused-requires c κs = tt
 returns : tie.Need-returns
 unfolding openRequest viewIn
 returns c =
-    let a = c .before .before .before .before .before .args in
-    opened-told (c .refused .result) (openRequest (a .image .now) (requestOf (a .code) (a .bytes .now) (a .caller) (a .handoff .now) (a .verdict)))
+    let a = c .before .before .before .before .before .before .args in
+    opened-told (c .refused .result) (openRequest (a .image .now) (requestOf (a .code) (a .bytes .now) (a .caller) (a .handoff .now) (a .verdict) (a .fresh .now)))
     (rw (ne-eqb (length (a .image .now)) imageWords (c .before .if1 .taken)) (c .refused .ensures))
 
 shared-slice-read-if2 : tie.Need-shared-slice-read-if2
@@ -31,8 +31,8 @@ refused-requires-2 c κs = tt
 returns-2 : tie.Need-returns-2
 unfolding openRequest viewIn
 returns-2 c =
-    let a = c .before .before .before .before .before .before .before .args in
-    opened-told (c .refused2 .result) (openRequest (a .image .now) (requestOf (a .code) (a .bytes .now) (a .caller) (a .handoff .now) (a .verdict)))
+    let a = c .before .before .before .before .before .before .before .before .args in
+    opened-told (c .refused2 .result) (openRequest (a .image .now) (requestOf (a .code) (a .bytes .now) (a .caller) (a .handoff .now) (a .verdict) (a .fresh .now)))
     (rw (eq-eqb (length (a .image .now)) imageWords (c .before .before .before .if1 .left), ne-eqb (getD (a .image .now) markAt 0) 1 (c .before .if2 .taken))
     (c .refused2 .ensures))
 
@@ -47,8 +47,8 @@ refused-requires-3 c κs = tt
 
 returns-3 : tie.Need-returns-3
 returns-3 c =
-    let a = c .before .before .before .before .before .before .before .before .before .before .before .args in
-    let r = requestOf (a .code) (a .bytes .now) (a .caller) (a .handoff .now) (a .verdict) in
+    let a = c .before .before .before .before .before .before .before .before .before .before .before .before .args in
+    let r = requestOf (a .code) (a .bytes .now) (a .caller) (a .handoff .now) (a .verdict) (a .fresh .now) in
     opened-told (c .refused3 .result) (openRequest (a .image .now) r)
     (c .refused3 .ensures ∙ sym (by-screen (a .image .now) r _ (c .before .before .before .before .before .before .before .if1 .left)
     (c .before .before .before .before .before .if2 .left) (told (c .before .before .before .before .command-screen .ensures) (c .before .before .status .given .1))))
@@ -58,15 +58,15 @@ enum-told c = search needs
 
 serve-requires : tie.Need-serve-requires
 serve-requires c κs =
-    let a = c .before .before .before .before .before .before .before .before .before .args in (
+    let a = c .before .before .before .before .before .before .before .before .before .before .args in (
       c .before .before .before .before .before .if1 .left,
       screened-length (a .code) (a .bytes .now) (told (c .before .before .command-screen .ensures) (c .enum-told .given .1)),
     )
 
 returns-4 : tie.Need-returns-4
 returns-4 c =
-    let a = c .before .before .before .before .before .before .before .before .before .before .args in
-    let r = requestOf (a .code) (a .bytes .now) (a .caller) (a .handoff .now) (a .verdict) in
+    let a = c .before .before .before .before .before .before .before .before .before .before .before .args in
+    let r = requestOf (a .code) (a .bytes .now) (a .caller) (a .handoff .now) (a .verdict) (a .fresh .now) in
     opened-told (c .serve .result) (openRequest (a .image .now) r)
     (c .serve .ensures ∙ sym (by-screen (a .image .now) r _ (c .before .before .before .before .before .before .if1 .left)
     (c .before .before .before .before .if2 .left) (told (c .before .before .before .command-screen .ensures) (c .before .enum-told .given .1))))

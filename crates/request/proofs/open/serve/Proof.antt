@@ -2,14 +2,14 @@
 use mathlib.Core.Bool.{false≢true}
 use lib.ListN.{length}
 use borrow.Author.Tests.{eqb-true, ne-eqb}
-use Rattle.opening.specs.Rules.{stashCode, stashLength, disableCode, identityCode, verifyCode, extendCode, extendLength}
+use Rattle.opening.specs.Rules.{stashCode, stashLength, disableCode, identityCode, verifyCode, extendCode, extendLength, invokeCode}
 use Rattle.request.specs.Screen.{screenedOpened}
 use Rattle.request.proofs.open.serve.Statement.{statement}
 use Rattle.request.proofs.open.serve.Tie as tie
 
 serve-stash-requires : tie.Need-serve-stash-requires
 serve-stash-requires c κs =
-    let g = c .before .before .before .before in
+    let g = c .before .before .before .before .before in
     (g .pre .0, eqb-true (length (g .args .bytes .now)) stashLength (rw (c .match .keys1) at (g .pre .1)))
 
 returns : tie.Need-returns
@@ -39,27 +39,35 @@ returns-4 c = rw (c .before .match .keys4) (c .serve-verify .ensures)
 
 serve-extend-requires : tie.Need-serve-extend-requires
 serve-extend-requires c κs =
-    let g = c .before .before .before .before in
+    let g = c .before .before .before .before .before in
     (g .pre .0, eqb-true (length (g .args .bytes .now)) extendLength (rw (c .match .keys5) at (g .pre .1)))
 
 returns-5 : tie.Need-returns-5
 unfolding screenedOpened
 returns-5 c = rw (c .before .match .keys5) (c .serve-extend .ensures)
 
+serve-invoke-requires : tie.Need-serve-invoke-requires
+serve-invoke-requires c κs = c .before .before .before .before .before .pre .0
+
+returns-6 : tie.Need-returns-6
+unfolding screenedOpened
+returns-6 c = rw (c .before .match .keys6) (c .serve-invoke .ensures)
+
 refused-requires : tie.Need-refused-requires
 refused-requires c κs = tt
 
-returns-6 : tie.Need-returns-6
-returns-6 c =
-    let g = c .before .before .before .before .before in
+returns-7 : tie.Need-returns-7
+returns-7 c =
+    let g = c .before .before .before .before .before .before in
     let code = g .args .code in
     let r = c .before .match .rest in
     absurd (false≢true (rw (
-      ne-eqb code stashCode (r .0 .0 .0 .0 .1),
-      ne-eqb code disableCode (r .0 .0 .0 .1),
-      ne-eqb code identityCode (r .0 .0 .1),
-      ne-eqb code verifyCode (r .0 .1),
-      ne-eqb code extendCode (r .1),
+      ne-eqb code stashCode (r .0 .0 .0 .0 .0 .1),
+      ne-eqb code disableCode (r .0 .0 .0 .0 .1),
+      ne-eqb code identityCode (r .0 .0 .0 .1),
+      ne-eqb code verifyCode (r .0 .0 .1),
+      ne-eqb code extendCode (r .0 .1),
+      ne-eqb code invokeCode (r .1),
     ) at (g .pre .1)))
 
 pub serve-spec : {M : Type 1} → statement M
@@ -76,5 +84,7 @@ serve-spec =
     returns-4
     serve-extend-requires
     returns-5
+    serve-invoke-requires
+    returns-6
     refused-requires
-    returns-6)
+    returns-7)

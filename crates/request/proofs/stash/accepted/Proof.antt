@@ -4,11 +4,8 @@ use borrow.Author.Needs.{needs}
 use Rattle.request.proofs.stash.accepted.Statement.{statement}
 use Rattle.request.proofs.stash.accepted.Tie as tie
 
-holder-index-requires : tie.Need-holder-index-requires
-holder-index-requires c κs = tt
-
 stash-values-requires : tie.Need-stash-values-requires
-stash-values-requires c κs = (c .before .before .before .pre .0, c .holder-index .ensures .1, c .holder-index .ensures .0)
+stash-values-requires c κs = let g = c .before .before in (g .pre .0 .0, g .pre .1 .0, g .pre .1 .1)
 
 four-requires : tie.Need-four-requires
 four-requires c κs = tt
@@ -22,19 +19,19 @@ ready-with-requires c κs = search needs
 returns : tie.Need-returns
 unfolding workAt
 returns c =
+    let g = c .before .before .before .before .before .before in
     rw (
       c .ready-with .ensures,
       c .before .before .four .ensures,
       c .before .before .before .stash-values .ensures,
-      c .before .before .before .before .holder-index .ensures .0,
-      ← c .before .before .before .before .before .before .before .pre .1,
+      ← g .pre .1 .1,
+      ← g .pre .0 .1,
     )
 
 pub accepted-spec : {M : Type 1} → statement M
 accepted-spec =
     tie.close
     (tie.spec
-    holder-index-requires
     stash-values-requires
     four-requires
     slice-aggregate-ready-with

@@ -1,10 +1,10 @@
--- Each exit is one line of the stash's rules: off, not well formed, a free node, none.
+-- Each exit is one line of the stash's rules: off, not well formed, no holder, no free node, none.
 use native.Mathlib.Omega.{arith}
 use lib.ListN.{getD}
 use borrow.Author.Tests.{eq-eqb, ne-eqb, le-leb, lt-leb, not-true, not-false}
 use Rattle.layout.specs.Sizes.{nodeCount, attestationAt}
 use Rattle.layout.proofs.Cases.{told}
-use Rattle.tree.specs.Tree.{lowestFree}
+use Rattle.tree.specs.Tree.{defaultWords, nodeWith, lowestFree}
 use Rattle.tree.specs.Nodes.{treeIn}
 use Rattle.opening.specs.Works.{workAt}
 use Rattle.opening.specs.Openings.{viewIn}
@@ -37,34 +37,53 @@ returns-2 c =
       told (c .before .before .well-formed .ensures) (not-true _ (c .before .if2 .taken)),
     ) (c .refused .ensures)
 
-free-index-requires : tie.Need-free-index-requires
-free-index-requires c κs = tt
+holder-index-requires : tie.Need-holder-index-requires
+holder-index-requires c κs = tt
 
-accepted-requires : tie.Need-accepted-requires
-accepted-requires c κs = search needs
+declined-requires-2 : tie.Need-declined-requires-2
+declined-requires-2 c κs = tt
 
+-- on, and well formed
 returns-3 : tie.Need-returns-3
-unfolding screenedOpened viewIn
+unfolding screenedOpened viewIn workAt
 returns-3 c =
     let a = c .before .before .before .before .before .before .before .before .before .args in
     rw (
       eq-eqb (getD (a .image .now) attestationAt 0) 1 (c .before .before .before .before .before .if1 .left),
       told (c .before .before .before .before .well-formed .ensures) (not-false _ (c .before .before .before .if2 .left)),
-      lt-leb nodeCount (lowestFree nodeCount (treeIn (a .image .now))) (omega (arith, c .before .before .free-index .ensures .0)),
-    ) (c .accepted .ensures)
+      le-leb nodeCount (nodeWith nodeCount (treeIn (a .image .now)) defaultWords) (omega (arith, c .before .before .holder-index .ensures .0)),
+    ) (c .declined2 .ensures)
 
-declined-requires-2 : tie.Need-declined-requires-2
-declined-requires-2 c κs = tt
+free-index-requires : tie.Need-free-index-requires
+free-index-requires c κs = tt
+
+declined-requires-3 : tie.Need-declined-requires-3
+declined-requires-3 c κs = tt
 
 returns-4 : tie.Need-returns-4
 unfolding screenedOpened viewIn workAt
 returns-4 c =
-    let a = c .before .before .before .before .before .before .before .before .before .args in
+    let a = c .before .before .before .before .before .before .before .before .before .before .before .args in
     rw (
-      eq-eqb (getD (a .image .now) attestationAt 0) 1 (c .before .before .before .before .before .if1 .left),
-      told (c .before .before .before .before .well-formed .ensures) (not-false _ (c .before .before .before .if2 .left)),
+      eq-eqb (getD (a .image .now) attestationAt 0) 1 (c .before .before .before .before .before .before .before .if1 .left),
+      told (c .before .before .before .before .before .before .well-formed .ensures) (not-false _ (c .before .before .before .before .before .if2 .left)),
+      lt-leb nodeCount (nodeWith nodeCount (treeIn (a .image .now)) defaultWords) (omega (arith, c .before .before .before .before .holder-index .ensures .0)),
       le-leb nodeCount (lowestFree nodeCount (treeIn (a .image .now))) (omega (arith, c .before .before .free-index .ensures .0)),
-    ) (c .declined2 .ensures)
+    ) (c .declined3 .ensures)
+
+accepted-requires : tie.Need-accepted-requires
+accepted-requires c κs = search needs
+
+returns-5 : tie.Need-returns-5
+unfolding screenedOpened viewIn
+returns-5 c =
+    let a = c .before .before .before .before .before .before .before .before .before .before .before .args in
+    rw (
+      eq-eqb (getD (a .image .now) attestationAt 0) 1 (c .before .before .before .before .before .before .before .if1 .left),
+      told (c .before .before .before .before .before .before .well-formed .ensures) (not-false _ (c .before .before .before .before .before .if2 .left)),
+      lt-leb nodeCount (nodeWith nodeCount (treeIn (a .image .now)) defaultWords) (omega (arith, c .before .before .before .before .holder-index .ensures .0)),
+      lt-leb nodeCount (lowestFree nodeCount (treeIn (a .image .now))) (omega (arith, c .before .before .free-index .ensures .0)),
+    ) (c .accepted .ensures)
 
 pub serve-stash-spec : {M : Type 1} → statement M
 serve-stash-spec =
@@ -76,8 +95,11 @@ serve-stash-spec =
     well-formed-requires
     refused-requires
     returns-2
-    free-index-requires
-    accepted-requires
-    returns-3
+    holder-index-requires
     declined-requires-2
-    returns-4)
+    returns-3
+    free-index-requires
+    declined-requires-3
+    returns-4
+    accepted-requires
+    returns-5)

@@ -26,15 +26,53 @@ returns-5 c = rw (c .match .keys5)
 
 returns-6 : tie.Need-returns-6
 unfolding kindOf
-returns-6 c =
+returns-6 c = rw (c .match .keys6)
+
+returns-7 : tie.Need-returns-7
+unfolding kindOf
+returns-7 c = rw (c .match .keys7)
+
+returns-8 : tie.Need-returns-8
+unfolding kindOf
+returns-8 c = rw (c .match .keys8)
+
+returns-9 : tie.Need-returns-9
+unfolding kindOf
+returns-9 c = rw (c .match .keys9)
+
+returns-10 : tie.Need-returns-10
+unfolding kindOf
+returns-10 c = rw (c .match .keys10)
+
+returns-11 : tie.Need-returns-11
+unfolding kindOf
+returns-11 c =
     let n = c .before .args .coded .number in
     rw (
-      ne-eqb n 1 (c .match .rest .0 .0 .0 .0 .1),
-      ne-eqb n 2 (c .match .rest .0 .0 .0 .1),
-      ne-eqb n 3 (c .match .rest .0 .0 .1),
-      ne-eqb n 4 (c .match .rest .0 .1),
-      ne-eqb n 5 (c .match .rest .1),
+      ne-eqb n 1 (c .match .rest .0 .0 .0 .0 .0 .0 .0 .0 .0 .1),
+      ne-eqb n 2 (c .match .rest .0 .0 .0 .0 .0 .0 .0 .0 .1),
+      ne-eqb n 3 (c .match .rest .0 .0 .0 .0 .0 .0 .0 .1),
+      ne-eqb n 4 (c .match .rest .0 .0 .0 .0 .0 .0 .1),
+      ne-eqb n 5 (c .match .rest .0 .0 .0 .0 .0 .1),
+      ne-eqb n 6 (c .match .rest .0 .0 .0 .0 .1),
+      ne-eqb n 7 (c .match .rest .0 .0 .0 .1),
+      ne-eqb n 8 (c .match .rest .0 .0 .1),
+      ne-eqb n 9 (c .match .rest .0 .1),
+      ne-eqb n 10 (c .match .rest .1),
     )
 
 pub decode-spec : {M : Type 1} → statement M
-decode-spec = tie.close (tie.spec returns returns-2 returns-3 returns-4 returns-5 returns-6)
+decode-spec =
+    tie.close
+    (tie.spec
+    returns
+    returns-2
+    returns-3
+    returns-4
+    returns-5
+    returns-6
+    returns-7
+    returns-8
+    returns-9
+    returns-10
+    returns-11)

@@ -12,12 +12,6 @@ is-root-requires c κs = search needs
 enum-told-2 : tie.Need-enum-told-2
 enum-told-2 c = search needs
 
-holds-default-requires : tie.Need-holds-default-requires
-holds-default-requires c κs = search needs
-
-enum-told-3 : tie.Need-enum-told-3
-enum-told-3 c = search needs
-
 is-used-requires : tie.Need-is-used-requires
 is-used-requires c κs = search needs
 
@@ -25,10 +19,7 @@ returns : tie.Need-returns
 returns c = rw (c .before .enum-told .given .1) (c .is-root .ensures)
 
 returns-2 : tie.Need-returns-2
-returns-2 c = rw (c .before .enum-told2 .given .1) (c .holds-default .ensures)
-
-returns-3 : tie.Need-returns-3
-returns-3 c = rw (c .before .enum-told3 .given .1, c .is-used .ensures)
+returns-2 c = rw (c .before .enum-told2 .given .1, c .is-used .ensures)
 
 pub is-of-spec : {M : Type 1} → statement M
 is-of-spec =
@@ -37,9 +28,6 @@ is-of-spec =
     enum-told
     is-root-requires
     enum-told-2
-    holds-default-requires
-    enum-told-3
     is-used-requires
     returns
-    returns-2
-    returns-3)
+    returns-2)

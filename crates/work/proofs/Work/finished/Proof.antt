@@ -8,7 +8,7 @@ finished-requires : tie.Need-finished-requires
 finished-requires c κs = tt
 
 returns : tie.Need-returns
-returns c = c .finished .ensures ∙ finished-standing (c .before .args .self)
+returns c = c .finished .ensures ∙ finished-standing (c .before .before .before .before .args .t1)
 
 pub finished-spec : {M : Type 1} → statement M
 finished-spec = tie.close (tie.spec finished-requires returns)

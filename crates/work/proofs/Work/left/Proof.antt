@@ -8,7 +8,7 @@ left-requires : tie.Need-left-requires
 left-requires c κs = tt
 
 returns : tie.Need-returns
-returns c = c .left .ensures ∙ left-standing (c .before .args .self)
+returns c = c .left .ensures ∙ left-standing (c .before .before .before .before .args .t1)
 
 pub left-spec : {M : Type 1} → statement M
 left-spec = tie.close (tie.spec left-requires returns)

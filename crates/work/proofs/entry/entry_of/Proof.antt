@@ -13,6 +13,12 @@ use borrow.Author.Needs.{needs}
 use Rattle.work.proofs.entry.entry_of.Statement.{statement}
 use Rattle.work.proofs.entry.entry_of.Tie as tie
 
+word-requires : tie.Need-word-requires
+word-requires c κs = tt
+
+word-requires-2 : tie.Need-word-requires-2
+word-requires-2 c κs = tt
+
 enum-told : tie.Need-enum-told
 enum-told c = search needs
 
@@ -27,12 +33,6 @@ parts-requires-2 c κs = tt
 
 enum-told-3 : tie.Need-enum-told-3
 enum-told-3 c = search needs
-
-word-requires : tie.Need-word-requires
-word-requires c κs = tt
-
-word-requires-2 : tie.Need-word-requires-2
-word-requires-2 c κs = tt
 
 word-requires-3 : tie.Need-word-requires-3
 word-requires-3 c κs = tt
@@ -59,16 +59,46 @@ cast-parts : tie.Need-cast-parts
 unfolding indexOk
 cast-parts c =
     let k = c .before .kind .given in
-    let h : extendable (k .0 .0) ≡ true = rw (k .1) at (c .before .before .before .before .pre .0) in
+    let h : extendable (k .0 .0) ≡ true = rw (k .1) at (c .before .before .before .before .before .before .pre .0) in
     omega (arith, extendable-to (k .0 .0) h)
 
 parts-requires-6 : tie.Need-parts-requires-6
 parts-requires-6 c κs = tt
 
+enum-told-6 : tie.Need-enum-told-6
+enum-told-6 c = search needs
+
+parts-requires-7 : tie.Need-parts-requires-7
+parts-requires-7 c κs = tt
+
+enum-told-7 : tie.Need-enum-told-7
+enum-told-7 c = search needs
+
+parts-requires-8 : tie.Need-parts-requires-8
+parts-requires-8 c κs = tt
+
+enum-told-8 : tie.Need-enum-told-8
+enum-told-8 c = search needs
+
+parts-requires-9 : tie.Need-parts-requires-9
+parts-requires-9 c κs = tt
+
+enum-told-9 : tie.Need-enum-told-9
+enum-told-9 c = search needs
+
+parts-requires-10 : tie.Need-parts-requires-10
+parts-requires-10 c κs = tt
+
+enum-told-10 : tie.Need-enum-told-10
+enum-told-10 c = search needs
+
+parts-requires-11 : tie.Need-parts-requires-11
+parts-requires-11 c κs = tt
+
 returns : tie.Need-returns
 unfolding numberOf
 returns c =
-    let h : 0 < numberOf Nothing = rw (c .before .enum-told .given .1) at (c .before .before .before .before .pre .1) in
+    let h : 0 < numberOf Nothing = rw (c .before .enum-told .given .1) at (c .before .before .before .before .before .before .pre .1) in
     absurd (omega arith)
 
 returns-2 : tie.Need-returns-2
@@ -77,9 +107,7 @@ returns-2 c = rw (c .before .enum-told2 .given .1, c .parts2 .ensures)
 
 returns-3 : tie.Need-returns-3
 unfolding entriesFor entryIn
-returns-3 c =
-    let c3 = c .before .before .before in
-    rw (c3 .before .enum-told3 .given .1, c .parts3 .ensures, c .before .word3 .ensures, c .before .before .word2 .ensures, c3 .word .ensures)
+returns-3 c = rw (c .before .before .enum-told3 .given .1, c .parts3 .ensures, c .before .word3 .ensures, c .before .before .before .before .word2 .ensures, c .before .before .before .before .before .word .ensures)
 
 returns-4 : tie.Need-returns-4
 unfolding entriesFor entryIn
@@ -93,17 +121,37 @@ returns-6 : tie.Need-returns-6
 unfolding entriesFor entryIn
 returns-6 c = rw (c .before .before .kind .given .1, c .parts6 .ensures)
 
+returns-7 : tie.Need-returns-7
+unfolding entriesFor entryIn
+returns-7 c = rw (c .before .enum-told6 .given .1, c .parts7 .ensures, c .before .before .before .word2 .ensures, c .before .before .before .before .word .ensures)
+
+returns-8 : tie.Need-returns-8
+unfolding entriesFor entryIn
+returns-8 c = rw (c .before .enum-told7 .given .1, c .parts8 .ensures, c .before .before .before .word2 .ensures, c .before .before .before .before .word .ensures)
+
+returns-9 : tie.Need-returns-9
+unfolding entriesFor entryIn
+returns-9 c = rw (c .before .enum-told8 .given .1, c .parts9 .ensures, c .before .before .before .word2 .ensures)
+
+returns-10 : tie.Need-returns-10
+unfolding entriesFor entryIn
+returns-10 c = rw (c .before .enum-told9 .given .1, c .parts10 .ensures, c .before .before .before .word2 .ensures)
+
+returns-11 : tie.Need-returns-11
+unfolding entriesFor entryIn
+returns-11 c = rw (c .before .enum-told10 .given .1, c .parts11 .ensures, c .before .before .before .word2 .ensures)
+
 pub entry-of-spec : {M : Type 1} → statement M
 entry-of-spec =
     tie.close
     (tie.spec
+    word-requires
+    word-requires-2
     enum-told
     parts-requires
     enum-told-2
     parts-requires-2
     enum-told-3
-    word-requires
-    word-requires-2
     word-requires-3
     parts-requires-3
     enum-told-4
@@ -113,9 +161,24 @@ entry-of-spec =
     enum-known-kind
     cast-parts
     parts-requires-6
+    enum-told-6
+    parts-requires-7
+    enum-told-7
+    parts-requires-8
+    enum-told-8
+    parts-requires-9
+    enum-told-9
+    parts-requires-10
+    enum-told-10
+    parts-requires-11
     returns
     returns-2
     returns-3
     returns-4
     returns-5
-    returns-6)
+    returns-6
+    returns-7
+    returns-8
+    returns-9
+    returns-10
+    returns-11)

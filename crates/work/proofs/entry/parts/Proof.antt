@@ -21,13 +21,13 @@ bytes-of-requires-2 : tie.Need-bytes-of-requires-2
 bytes-of-requires-2 c κs = tt
 
 -- by the array's type
-long : (g : tie.Start) → length (g .args .t5) ≡ inputBytes
+long : (g : tie.Start) → length (g .args .t6) ≡ inputBytes
 long g = search needs
 
 returns : tie.Need-returns
 returns c =
     let g = c .before .before .before .before in
-    let inputs = g .args .t5 in
+    let inputs = g .args .t6 in
     rw (
       c .bytes-of2 .ensures,
       c .before .before .bytes-of .ensures,

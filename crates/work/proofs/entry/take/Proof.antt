@@ -4,7 +4,7 @@ use Prim.Native.Nat.{_<_}
 use mathlib.Core.Path.{_≡_, sym, _∙_}
 use mathlib.Core.Bool.{true}
 use Rattle.layout.proofs.Cases.{told, told-no, told-yes}
-use Rattle.table.specs.Table.{numberOf}
+use Rattle.table.specs.Table.{numberOf, indexOk}
 use Rattle.work.specs.Entries.{finished}
 use Rattle.work.specs.Parts.{recording}
 use Rattle.work.specs.Recorded.{entriesOf}
@@ -34,19 +34,23 @@ number-requires c κs = tt
 done : (c : tie.Else1) → finished (given (c .before .before .before .before)) ≡ true
 done c = sym (finished-recording _ _ _ _ _) ∙ told-yes (c .before .finished .ensures) (c .if1 .left)
 
+-- and so its indices are fine
+index : (c : tie.Else1) → indexOk (c .before .before .before .before .args .kind) (c .before .before .before .before .args .node .now) ≡ true
+index c = let w = given (c .before .before .before .before) in shaped-index w (finished-shaped w (done c))
+
 returns-2 : tie.Need-returns-2
 unfolding entriesOf
 returns-2 c =
     let c2 = c .before .before in
     let g = c2 .before .before .before .before in
-    entry-none (given g) (g .args .buffer .now) (done c2) (no-stores _ _ _ (told (c .before .number .ensures) (c .if2 .taken)))
+    entry-none (given g) (g .args .buffer .now) (done c2) (no-stores _ _ _ (index c2) (told (c .before .number .ensures) (c .if2 .taken)))
 
 entry-of-requires : tie.Need-entry-of-requires
 entry-of-requires c κs =
     let c2 = c .before .before in
     let g = c2 .before .before .before .before in
     let some : 0 < numberOf (g .args .kind) = omega (arith, c .before .number .ensures) in
-    (shaped-index (given g) (finished-shaped (given g) (done c2)), some)
+    (index c2, some)
 
 write-entry-requires : tie.Need-write-entry-requires
 write-entry-requires c κs = tt

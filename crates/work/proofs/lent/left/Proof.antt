@@ -16,12 +16,12 @@ number-requires c κs = tt
 sub-result : tie.Need-sub-result
 sub-result c =
     let c2 = c .before .before in
-    let c3 = c2 .before in
+    let c3 = c2 .before .before in
     let a = c3 .args in
     omega (
       arith,
       c .number .ensures,
-      shaped-position (standing (a .kind) (a .position) (a .answer-len))
+      shaped-position (standing (a .kind) (a .position) (a .answer-len) (a .node .now))
           (told (c2 .shaped .ensures) (c .before .if1 .taken)),
     )
 

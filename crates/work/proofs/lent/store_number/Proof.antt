@@ -19,22 +19,22 @@ left-requires c κs = tt
 returns-2 : tie.Need-returns-2
 unfolding storeNumber
 returns-2 c =
-    let c4 = c .before .before .before .before in
+    let c4 = c .before .before .before .before .before in
     let a = c4 .args in
     rw (
       eq-eqb (length (a .image .now)) imageWords (omega arith),
-      le-ltb 0 (leftOf (standing (a .kind) (a .position) (a .answer-len)))
+      le-ltb 0 (leftOf (standing (a .kind) (a .position) (a .answer-len) (a .node .now)))
           (omega (arith, c .before .left .ensures)),
     )
 
 returns-3 : tie.Need-returns-3
 unfolding storeNumber
 returns-3 c =
-    let c4 = c .before .before .before .before in
+    let c4 = c .before .before .before .before .before in
     let a = c4 .args in
     rw (
       eq-eqb (length (a .image .now)) imageWords (omega arith),
-      lt-ltb 0 (leftOf (standing (a .kind) (a .position) (a .answer-len)))
+      lt-ltb 0 (leftOf (standing (a .kind) (a .position) (a .answer-len) (a .node .now)))
           (omega (arith, c .before .left .ensures)),
     )
 

@@ -1,0 +1,3 @@
+-- Laws of the grounds.
+pub mod First
+pub mod Parted

@@ -1,0 +1,2 @@
+-- By which dpe result a tree command is declined.
+pub mod Ground

@@ -1,0 +1,2 @@
+-- Laws of the planning.
+pub mod Fresh

@@ -1,0 +1,2 @@
+-- What the planning of a tree command answers.
+pub mod Planned

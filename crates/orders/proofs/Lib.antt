@@ -1,0 +1,3 @@
+-- Laws of the orders.
+pub mod Whole
+pub mod Vectors

@@ -1,0 +1,2 @@
+-- What the reader of a tree command's data answers.
+pub mod Told
