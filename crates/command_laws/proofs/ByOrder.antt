@@ -1,22 +1,21 @@
 -- What is asked of each tree command (document 02, §5): where none of its rules applies, its indices are fine. Assumes nothing.
-use Prim.Native.Nat.{ℕ, zero, suc, _+_, _-_, _≤_, _<_}
-use native.Mathlib.Nat.{not-suc-le-zero, le-of-suc-le-suc}
+use Prim.Native.Nat.{ℕ, _-_, _<_}
 use native.Mathlib.Omega.{arith}
-use mathlib.Core.Path.{_≡_, refl, sym, ap, _∙_}
-use mathlib.Core.Bool.{Bool, true, false, cond, not, _&&_, _||_, true≢false}
-use mathlib.Core.List.{List, [], _∷_, _++_}
+use mathlib.Core.Path.{_≡_, refl, ap, _∙_}
+use mathlib.Core.Bool.{Bool, true, false, cond, _&&_, _||_, true≢false}
+use mathlib.Core.List.{List, _++_}
 use lib.Dec.{leb, ltb, eqb}
-use lib.ListN.{length, getD, set, List·getD-append}
+use lib.ListN.{length, getD, List·getD-append}
 use lib.Seq.{getD-set-other}
-use borrow.Author.Tests.{lt-ltb, le-leb, leb-false, ltb-true}
+use borrow.Author.Tests.{lt-ltb, le-leb, leb-false}
 use Rattle.layout.specs.Sizes.{nodeCount, nodeWords, localityAt}
 use Rattle.layout.specs.Words.{zeros}
 use Rattle.layout.specs.Below.{allBelow}
 use Rattle.layout.proofs.Bounded.{all-below}
-use Rattle.layout.proofs.Cases.{and-left}
-use Rattle.tree.specs.Tree.{Tree, retiredWords, sameHandle, lowestFree, goesToo, freedWithin, freedBy}
+use Rattle.tree.specs.Tree.{Tree, retiredWords, sameHandle, lowestFree, freedBy}
 use Rattle.nodes.specs.Record.{handleRow}
 use Rattle.tree.specs.Nodes.{treeIn}
+use Rattle.tree.proofs.Freeing.{in-at, freed-few, freed-below}
 use Rattle.table.specs.Table.{indexOk}
 use Rattle.table.specs.declared.Kind.the-variants.{Derive, Replace}
 use Rattle.opening.specs.Orders.{NodeCommand, derive, extend, rotate, destroy, malformed, traitsOf, namedIn}
@@ -24,54 +23,6 @@ use Rattle.opening.specs.Tasks.{Order}
 use Rattle.opening.specs.Rules.{orderRules}
 use Rattle.opening.specs.Works.{withCaller, orderKind, orderValues}
 use Rattle.opening.proofs.Decided.{NoneApply}
-
--- ---- the nodes that a destroy frees, of any tree: fewer than there are, and none beyond them
-
-pub freed-few : (n : ℕ) (t : Tree) (s i : ℕ) → length (freedWithin n t s i) ≤ s
-unfolding freedWithin
-freed-few n t zero i = omega arith
-freed-few n t (suc s) i = go (goesToo n t i (t i .parent)) (freed-few n t s (t i .parent))
-  where
-    go : (b : Bool) → length (freedWithin n t s (t i .parent)) ≤ s → suc (length (cond b (freedWithin n t s (t i .parent)) [])) ≤ suc s
-    go true h = omega arith
-    go false h = omega arith
-
-goes-below : (n : ℕ) (t : Tree) (b p : ℕ) → goesToo n t b p ≡ true → p < n
-unfolding goesToo
-goes-below n t b p e = ltb-true p n (and-left (ltb p n) _ e)
-
-pub freed-there : (n : ℕ) (t : Tree) (s i : ℕ) → i < n → (j : ℕ) → j < length (freedWithin n t s i) → getD (freedWithin n t s i) j 0 < n
-unfolding freedWithin
-freed-there n t zero i l j h = absurd (not-suc-le-zero h)
-freed-there n t (suc s) i l zero h = l
-freed-there n t (suc s) i l (suc j) h =
-    go (goesToo n t i (t i .parent)) refl (λ b. freed-there n t s (t i .parent) b j) (le-of-suc-le-suc h)
-  where
-    go : (b : Bool) → goesToo n t i (t i .parent) ≡ b
-        → (t i .parent < n → j < length (freedWithin n t s (t i .parent)) → getD (freedWithin n t s (t i .parent)) j 0 < n)
-        → j < length (cond b (freedWithin n t s (t i .parent)) [])
-        → getD (cond b (freedWithin n t s (t i .parent)) []) j 0 < n
-    go true e more k = more (goes-below n t i (t i .parent) e) k
-    go false e more k = absurd (not-suc-le-zero k)
-
-module _ (t : Tree) (i : ℕ) where
-  few : length (freedBy nodeCount t i) < nodeCount
-  unfolding freedBy
-  few = go (ltb i nodeCount) (freed-few nodeCount t (nodeCount - 1) i)
-    where
-      go : (b : Bool) → length (freedWithin nodeCount t (nodeCount - 1) i) ≤ nodeCount - 1
-          → length (cond b (freedWithin nodeCount t (nodeCount - 1) i) []) < nodeCount
-      go true h = omega arith
-      go false h = omega arith
-
-  there : (j : ℕ) → j < length (freedBy nodeCount t i) → getD (freedBy nodeCount t i) j 0 < nodeCount
-  unfolding freedBy
-  there j = go (ltb i nodeCount) refl
-    where
-      go : (b : Bool) → ltb i nodeCount ≡ b → j < length (cond b (freedWithin nodeCount t (nodeCount - 1) i) [])
-          → getD (cond b (freedWithin nodeCount t (nodeCount - 1) i) []) j 0 < nodeCount
-      go true e h = freed-there nodeCount t (nodeCount - 1) i (ltb-true i nodeCount e) j h
-      go false e h = absurd (not-suc-le-zero h)
 
 -- ---- a work's indices
 
@@ -112,15 +63,17 @@ order-index t (rotate h) fresh caller n image e =
     lt-ltb (namedIn t (rotate h)) nodeCount (named-there t (record { command = rotate h; fresh = fresh; caller = caller }) n)
 order-index t (destroy h) fresh caller n image e =
     let i = namedIn t (destroy h) in
+    let l = named-there t (record { command = destroy h; fresh = fresh; caller = caller }) n in
+    let few = freed-few nodeCount t i l in
     let ks : Tree → List ℕ = λ u. freedBy nodeCount u (namedIn u (destroy h)) in
     let words : Tree → List ℕ = λ u. withCaller (ks u ++ zeros (nodeWords - length (ks u))) caller in
     ap (λ (u : Tree). leb (length (ks t)) nodeCount && allBelow (length (ks t)) (λ j. ltb (getD (words u) j 0) nodeCount)) e
     ∙ rw (
-      le-leb (length (ks t)) nodeCount (omega (arith, few t i)),
+      le-leb (length (ks t)) nodeCount (omega (arith, few)),
       all-below (λ j. ltb (getD (words t) j 0) nodeCount) (length (ks t))
-          (λ j l. ap (λ (x : ℕ). ltb x nodeCount)
-          (getD-set-other (ks t ++ zeros (nodeWords - length (ks t))) localityAt j caller 0 (λ (q : j ≡ localityAt). omega (arith, few t i))
-          ∙ List·getD-append (ks t) (zeros (nodeWords - length (ks t))) 0 j l)
-          ∙ lt-ltb (getD (ks t) j 0) nodeCount (there t i j l)),
+          (λ j k. ap (λ (x : ℕ). ltb x nodeCount)
+          (getD-set-other (ks t ++ zeros (nodeWords - length (ks t))) localityAt j caller 0 (λ (q : j ≡ localityAt). omega (arith, few))
+          ∙ List·getD-append (ks t) (zeros (nodeWords - length (ks t))) 0 j k)
+          ∙ lt-ltb (getD (ks t) j 0) nodeCount (freed-below nodeCount t i (getD (ks t) j 0) l (in-at (ks t) j k))),
     )
 order-index t malformed fresh caller n image e = refl

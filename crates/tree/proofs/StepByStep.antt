@@ -1,28 +1,20 @@
--- Freeing node by node, each time looking at the tree as it then stands, frees what `freedBy` lists, in that order. Assumes nothing.
+-- Freeing node by node, each time looking at the nodes as they then stand: the next node up is tested as `freedBy` tests it in the tree before. Assumes nothing.
 use mathlib.Core.Path.{_≡_, refl, sym, ap, _∙_}
 use mathlib.Core.Logic.{_≢_, _⊎_, inl, inr}
-use Prim.Native.Nat.{ℕ, zero, suc, _-_, _≤_, _<_}
-use native.Mathlib.Omega.{arith}
+use Prim.Native.Nat.{ℕ, _≤_}
 use native.Mathlib.Decide.{ℕ-discrete}
-use mathlib.Core.Bool.{Bool, true, false, cond, not, _&&_, _||_, true≢false}
-use mathlib.Core.List.{List, []}
+use mathlib.Core.Bool.{Bool, true, false, not, _&&_, _||_, true≢false}
 use lib.Dec.{eqb}
 use borrow.Author.Tests.{eq-eqb, ne-eqb, lt-ltb}
 use Rattle.layout.proofs.Bounded.{all-same, and-false}
-use Rattle.tree.specs.Tree.{Place, freePlace, Tree, retiredWords, hasHandle, isRoot, isChildOf, leads, childless, childlessBut, goesToo, freedWithin, freedBy}
+use Rattle.tree.specs.Tree.{Place, freePlace, Tree, retiredWords, hasHandle, isRoot, isChildOf, leads, childless, childlessBut, goesToo}
 use Rattle.tree.proofs.Ways.{leads-up}
-use Rattle.tree.proofs.Rooted.{placed, placed-same, placed-other, Rooted}
-use Rattle.tree.proofs.Freeing.{cleared, goes-root, Needs, least, needs-none, needs-up, freed-bound}
+use Rattle.tree.proofs.Rooted.{placed, placed-same, placed-other}
+use Rattle.tree.proofs.Freeing.{Needs}
 
 -- a retired node that is not the root and has no child now
 abbrev pub leftIn : ℕ → Tree → ℕ → Bool
 leftIn n t p = hasHandle retiredWords (t p) && (not (isRoot (t p)) && childless n t p)
-
--- node i goes, then its parent if that is left behind, and so on, at most s nodes
-abbrev pub freedFrom : ℕ → ℕ → Tree → ℕ → Tree
-freedFrom n zero t i = t
-freedFrom n (suc s) t i =
-    cond (leftIn n (placed i freePlace t) (t i .parent)) (freedFrom n s (placed i freePlace t) (t i .parent)) (placed i freePlace t)
 
 module _ (n : ℕ) (t : Tree) where
   -- u is t without nodes whose parents need more than r steps to the root; nodes that need no more are there
@@ -98,30 +90,3 @@ module _ (n : ℕ) (t : Tree) where
             go : (x : Bool) → leads n t q k ≡ x → leads n t q k ≡ false
             go true e = absurd (true≢false (sym (leads-up n t q r k l e) ∙ f))
             go false e = e
-
-  within-steps : (s : ℕ) (u : Tree) (i r : ℕ) → u i ≡ t i → Needs n t i r → Thinned u r → freedFrom n s u i ≡ cleared (freedWithin n t s i) u
-  unfolding freedWithin
-  within-steps zero u i r e a h = refl
-  within-steps (suc s) u i r e a h =
-      ap (λ (q : Place). cond (leftIn n (placed i freePlace u) (q .parent)) (freedFrom n s (placed i freePlace u) (q .parent)) (placed i freePlace u)) e
-      ∙ ap (λ (b : Bool). cond b (freedFrom n s (placed i freePlace u) (t i .parent)) (placed i freePlace u)) (left-goes u i r a h)
-      ∙ go (goesToo n t i (t i .parent)) refl r a h (within-steps s (placed i freePlace u) (t i .parent))
-    where
-      go : (b : Bool) → goesToo n t i (t i .parent) ≡ b → (r : ℕ) → Needs n t i r → Thinned u r
-          → ((q : ℕ) → placed i freePlace u (t i .parent) ≡ t (t i .parent) → Needs n t (t i .parent) q → Thinned (placed i freePlace u) q
-          → freedFrom n s (placed i freePlace u) (t i .parent) ≡ cleared (freedWithin n t s (t i .parent)) (placed i freePlace u))
-          → cond b (freedFrom n s (placed i freePlace u) (t i .parent)) (placed i freePlace u)
-          ≡ cleared (cond b (freedWithin n t s (t i .parent)) []) (placed i freePlace u)
-      go false g r a h on = refl
-      go true g zero a h on = absurd (true≢false (sym (needs-none n t i a) ∙ goes-root n t i (t i .parent) g))
-      go true g (suc r) a h on =
-          let b = needs-up n t i r (goes-root n t i (t i .parent) g) a in
-          on r (at-parent u i (suc r) a h) b (thinned-more u i (suc r) a h r (omega arith) b)
-
-  module _ (top : ℕ) (r : Rooted n t top) (i : ℕ) (l : i < n) (u : t i .used ≡ true) (z : isRoot (t i) ≡ false) where
-    -- n steps are enough
-    pub freed-from : (s : ℕ) → n - 1 ≤ s → freedFrom n s t i ≡ cleared (freedBy n t i) t
-    freed-from s b =
-        let a = least n t (n - 1) i z (r .way i l u) in
-        within-steps s t i (a .steps) refl (a .needs) (record { near = λ j w. refl; each = λ j. inl refl })
-        ∙ ap (λ (ks : List ℕ). cleared ks t) (freed-bound n t top r i l u z s b)
