@@ -1,12 +1,13 @@
 //! Every case of an extension: registers, lengths, units, cuts, and registers
 //! that are set from outside.
 
+use super::fixed_svns::{boot, cold_boot, every_boot, set, stores};
 use super::images::odd_image_2;
 use crate::checksum::sealed;
 use crate::layout::*;
-use crate::mailbox::{booted, BOOTED_WITH};
+use crate::mailbox::booted;
 use crate::random::Random;
-use crate::script::{BootBytes, Mail, Op};
+use crate::script::{Mail, Op};
 use crate::sha384::DIGEST_BYTES;
 use std::ops::RangeInclusive;
 
@@ -77,23 +78,6 @@ fn request(register: u32, length: usize) -> Mail {
 
 fn extend(register: u32) -> Op {
     Op::Request(request(register, 56))
-}
-
-fn stores(count: usize) -> Op {
-    Op::Store(count as u32)
-}
-
-fn boot() -> BootBytes {
-    BOOTED_WITH.into()
-}
-
-/// A whole cold boot.
-fn cold_boot() -> [Op; 2] {
-    [Op::Cold(boot()), stores(COLD_STORES)]
-}
-
-fn set(field: u8, value: u64) -> Op {
-    Op::Set { field, value }
 }
 
 /// All registers, and numbers behind them.
@@ -226,22 +210,10 @@ fn second_fields() -> Vec<Op> {
 
 /// Extensions before and after an update, a disabling and a cold boot.
 fn through_boots() -> Vec<Op> {
-    let disable = Op::Request(Mail {
-        code: DISABLE,
-        bytes: sealed(DISABLE, &[]),
-        ..request(REGISTER, 56)
-    });
     let all = [4, REGISTER, 30].map(|register| [extend(register), stores(EXTENSION_STORES)]);
     let extended = [all.concat(), vec![Op::Dump]].concat();
-    let between = [
-        vec![Op::Update(boot(), 1), stores(UPDATE_STORES)],
-        vec![Op::Update(boot(), 0)],
-        vec![disable, stores(DISABLING_STORES)],
-        vec![Op::Update(boot(), 1), stores(DISABLING_STORES)],
-        cold_boot().to_vec(),
-    ];
     let mut ops = [cold_boot().to_vec(), extended.clone()].concat();
-    for boots in between {
+    for boots in every_boot() {
         ops.extend(boots);
         ops.push(Op::Dump);
         ops.extend(extended.clone());

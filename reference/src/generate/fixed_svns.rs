@@ -63,6 +63,22 @@ pub(super) fn cold_boot() -> [Op; 2] {
     [Op::Cold(boot()), stores(COLD_STORES)]
 }
 
+/// An update, one that is kept, a disabling, an update after it, and a cold boot.
+pub(super) fn every_boot() -> [Vec<Op>; 5] {
+    let disable = Op::Request(Mail {
+        code: DISABLE,
+        bytes: sealed(DISABLE, &[]),
+        ..mail(&with(0))
+    });
+    [
+        vec![Op::Update(boot(), 1), stores(UPDATE_STORES)],
+        vec![Op::Update(boot(), 0)],
+        vec![disable, stores(DISABLING_STORES)],
+        vec![Op::Update(boot(), 1), stores(DISABLING_STORES)],
+        cold_boot().to_vec(),
+    ]
+}
+
 /// A whole update, and the image.
 pub(super) fn updated() -> [Op; 3] {
     [Op::Update(boot(), 1), stores(UPDATE_STORES), Op::Dump]
@@ -209,20 +225,8 @@ fn used_nodes() -> Vec<Vec<Op>> {
 /// Stashes before and after an update, a kept boot and a disabling, and a cold
 /// boot over all.
 fn through_boots() -> Vec<Op> {
-    let disable = Op::Request(Mail {
-        code: DISABLE,
-        bytes: sealed(DISABLE, &[]),
-        ..mail(&with(0))
-    });
-    let between = [
-        updated().to_vec(),
-        vec![Op::Update(boot(), 0)],
-        vec![disable, stores(DISABLING_STORES)],
-        vec![Op::Update(boot(), 1), stores(DISABLING_STORES)],
-        cold_boot().to_vec(),
-    ];
     let mut ops = cold_boot().to_vec();
-    for (svn, boots) in (FRESH..).zip(between) {
+    for (svn, boots) in (FRESH..).zip(every_boot()) {
         ops.extend(stashed(svn));
         ops.extend(boots);
         ops.push(Op::Dump);

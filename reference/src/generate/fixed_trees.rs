@@ -3,7 +3,7 @@
 //! are equal, nearly equal or retired.
 
 use super::fixed_journals::forms;
-use super::fixed_svns::{boot, cold_boot, set, stash, stores, FRESH};
+use super::fixed_svns::{boot, cold_boot, every_boot, set, stash, stores, FRESH};
 use super::nodes::{chain, from, set_handle, LAST};
 use super::trees::{data, handle_at, invoke, mail};
 use crate::checksum::sealed;
@@ -696,11 +696,6 @@ fn handles() -> Vec<Vec<Op>> {
 
 /// Commands before and after an update, a disabling and a cold boot.
 fn through_boots() -> Vec<Op> {
-    let disable = Op::Request(Mail {
-        code: DISABLE,
-        bytes: sealed(DISABLE, &[]),
-        ..invoke(&[], &[], 0)
-    });
     let all = || {
         let mut ops = Vec::new();
         for act in acts() {
@@ -712,15 +707,8 @@ fn through_boots() -> Vec<Op> {
         ops.push(Op::Dump);
         ops
     };
-    let between = [
-        vec![Op::Update(boot(), 1), stores(UPDATE_STORES)],
-        vec![Op::Update(boot(), 0)],
-        vec![disable, stores(DISABLING_STORES)],
-        vec![Op::Update(boot(), 1), stores(DISABLING_STORES)],
-        cold_boot().to_vec(),
-    ];
     let mut ops = [fork(), all()].concat();
-    for boots in between {
+    for boots in every_boot() {
         ops.extend(boots);
         ops.extend(all());
     }
