@@ -1,4 +1,6 @@
 // Opening a boot (document 01, "Cold boot" and "Update boot").
+#![tactic(auto)]
+
 pub mod cold;
 mod inputs;
 mod ready;

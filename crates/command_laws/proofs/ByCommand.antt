@@ -5,10 +5,9 @@ use native.Mathlib.Nat.{not-suc-le-zero}
 use native.Mathlib.Omega.{arith}
 use mathlib.Core.Path.{◌≡◌, refl, sym, ap, ◌∙◌}
 use mathlib.Core.Logic.{◌≢◌}
-use mathlib.Core.Bool.{Bool, true, false, cond, not, true≢false}
+use mathlib.Core.Bool.{Bool, true, false, not, true≢false}
 use mathlib.Core.List.{List, [], ◌∷◌}
 use mathlib.Core.Option.{none}
-use lib.Dec.{eqb, leb}
 use lib.ListN.{length, take, drop, length-take, length-drop}
 use Rattle.opening.specs.Orders.{command_in}
 use lib.Seq.{length-take-le}
@@ -20,12 +19,12 @@ use Rattle.tree.specs.Tree.{Tree, well_formed, lowest_free, node_with, default_w
 use Rattle.tree.specs.Nodes.{tree_in}
 use Rattle.table.specs.Table.{number_of, index_ok}
 use Rattle.opening.specs.Tasks.{Request, Task, no_stores, kept_boot, disable_command, disabling_boot, stash, update, cold_boot, extension, invoke, View}
-use Rattle.opening.specs.Rules.{Verdict, refuse, decline, Rule, Command, stash_measurement, disable_attestation, identity_key, verify_signature, extend_register, invoke_dpe, unknown_command, command_of, stash_code, disable_code, identity_code, verify_code, extend_code, invoke_code, stash_length, extend_length, extension_in, order_in, order_rules, answer_of, ruled}
+use Rattle.opening.specs.Rules.{Verdict, refuse, decline, Rule, Command, stash_measurement, disable_attestation, identity_key, verify_signature, extend_register, invoke_dpe, unknown_command, stash_length, extend_length, extension_in, order_in, order_rules, answer_of, ruled}
 use Rattle.opening.specs.Works.{facts_of}
 use Rattle.opening.proofs.Decided.{NoneApply, negated}
 use Rattle.opening.proofs.Recorded.{Told}
 use Rattle.opening.proofs.Ordered.{command_sized, order_told_law}
-use Rattle.command_laws.proofs.ByOrder.{order_index}
+use Rattle.command_laws.proofs.Indices.{order_index}
 
 -- ---- refusal 11
 
@@ -108,7 +107,7 @@ idle v =
     }
 
 -- a stash rests on its indices: a holder and a free place
-stash_law : CommandLaw stash_measurement
+pub stash_law : CommandLaw stash_measurement
 unfolding index_ok
 stash_law =
     record {
@@ -131,7 +130,7 @@ stash_law =
       told = λ v r e n. digest_long r.bytes stash_length (eqb-true (length r.bytes) stash_length e) (omega arith);
     }
 
-disable_law : CommandLaw disable_attestation
+pub disable_law : CommandLaw disable_attestation
 unfolding index_ok
 disable_law =
     record {
@@ -148,7 +147,7 @@ disable_law =
       told = λ v r e n. tt;
     }
 
-identity_law : CommandLaw identity_key
+pub identity_law : CommandLaw identity_key
 identity_law =
     record {
       short = λ r. short (take 96 (drop 304 r.handoff)) (omega (arith, length-take 96 (drop 304 r.handoff)));
@@ -158,7 +157,7 @@ identity_law =
       told = λ v r e n. tt;
     }
 
-verify_law : CommandLaw verify_signature
+pub verify_law : CommandLaw verify_signature
 verify_law =
     record {
       short = λ r. short [] (omega arith);
@@ -169,7 +168,7 @@ verify_law =
     }
 
 -- an extension rests on its register, and is served only while on
-extend_law : CommandLaw extend_register
+pub extend_law : CommandLaw extend_register
 unfolding index_ok
 extend_law =
     record {
@@ -187,7 +186,7 @@ extend_law =
     }
 
 -- a tree command rests on what its rules saw, and is served only while on
-invoke_law : CommandLaw invoke_dpe
+pub invoke_law : CommandLaw invoke_dpe
 invoke_law =
     record {
       short = λ r. short (bytes4 0) (omega arith);
@@ -212,22 +211,6 @@ invoke_law =
           order_told_law v.nodes c r.fresh (command_sized (drop 8 r.bytes)) n.1.1.0 n.1.1.1.1.1.0;
     }
 
-unknown_law : CommandLaw unknown_command
+pub unknown_law : CommandLaw unknown_command
 unknown_law =
     record { short = λ r. short [] (omega arith); blind = λ r d s t. refl; no_11 = λ v r f. tt; serves = λ v r n. idle v; told = λ v r e n. tt }
-
--- of whatever command a code has
-pub command_law : (code : ℕ) → CommandLaw (command_of code)
-command_law code =
-    go (eqb code stash_code) (eqb code disable_code) (eqb code identity_code) (eqb code verify_code) (eqb code extend_code) (eqb code invoke_code)
-  where
-    go : (u v w x y z : Bool)
-        → CommandLaw (cond u stash_measurement
-        (cond v disable_attestation (cond w identity_key (cond x verify_signature (cond y extend_register (cond z invoke_dpe unknown_command))))))
-    go true v w x y z = stash_law
-    go false true w x y z = disable_law
-    go false false true x y z = identity_law
-    go false false false true y z = verify_law
-    go false false false false true z = extend_law
-    go false false false false false true = invoke_law
-    go false false false false false false = unknown_law

@@ -2,3 +2,5 @@
 // (proofs/ByCommand.antt).
 //
 // It lies above `opening`, whose definitions the commands' code is proved against without these laws.
+
+#![tactic(auto)]

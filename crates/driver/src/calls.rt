@@ -6,6 +6,7 @@ use crate::input::Operation;
 use crate::output::{put_counts, put_report};
 use crate::state::{Operated, done};
 use machine::{InHand, Made, Report, make};
+use std::io::Write;
 
 // One act: the machine uses those of the arguments that the act has.
 fn act(given: Operation, input: &[u8], image: &mut [u32], hand: InHand, buffer: &mut [u8]) -> Made
@@ -38,14 +39,15 @@ fn act(given: Operation, input: &[u8], image: &mut [u32], hand: InHand, buffer: 
 }
 
 // Writes what an act of a kind reports.
-fn reported(kind: u8, made: Made, buffer: &[u8]) -> Operated {
+fn reported<W: Write>(out: &mut W, kind: u8, made: Made, buffer: &[u8]) -> Operated {
     let report = made.report;
     let after = made.hand;
-    done(after, put_report(kind, report, buffer))
+    done(after, put_report(out, kind, report, buffer))
 }
 
 // An act, and what it reports.
-fn act_into(
+fn act_into<W: Write>(
+    out: &mut W,
     given: Operation,
     input: &[u8],
     image: &mut [u32],
@@ -55,7 +57,7 @@ fn act_into(
     requires { Whole (length input.now) given }
 {
     let made = act(given, input, image, hand, buffer);
-    reported(given.kind, made, buffer)
+    reported(out, given.kind, made, buffer)
 }
 
 // A buffer for the longest answer or entry that may be asked for. The `ensures` gives only the length, which
@@ -67,12 +69,18 @@ fn untouched() -> [u8; 65536]
 }
 
 // An opening, an answer, a journal entry or a cut. Only an answer's or an entry's buffer has a size.
-pub(crate) fn one_act(given: Operation, input: &[u8], image: &mut [u32], hand: InHand) -> Operated
+pub(crate) fn one_act<W: Write>(
+    out: &mut W,
+    given: Operation,
+    input: &[u8],
+    image: &mut [u32],
+    hand: InHand,
+) -> Operated
     requires { Whole (length input.now) given }
 {
     let size = given.size;
     let mut buffer = untouched();
-    act_into(given, input, image, hand, &mut buffer[..size])
+    act_into(out, given, input, image, hand, &mut buffer[..size])
 }
 
 // What a store came to: whether it was made, its refusal's number or 0, and the work in hand.
@@ -119,13 +127,14 @@ fn store_one(given: Operation, input: &[u8], image: &mut [u32], before: Ran) -> 
 }
 
 // Writes how many stores were made and the number of the refusal that ended them, or 0.
-fn counted(made: usize, last: Ran) -> Operated {
+fn counted<W: Write>(out: &mut W, made: usize, last: Ran) -> Operated {
     let hand = last.hand;
-    done(hand, put_counts(made, last.number as usize))
+    done(hand, put_counts(out, made, last.number as usize))
 }
 
 // Stores one after another, up to a number of them or to the first that is not made.
-pub(crate) fn stores(
+pub(crate) fn stores<W: Write>(
+    out: &mut W,
     given: Operation,
     input: &[u8],
     image: &mut [u32],
@@ -143,9 +152,9 @@ pub(crate) fn stores(
     while made < count {
         last = store_one(given, input, image, last);
         if !last.going {
-            return counted(made, last);
+            return counted(out, made, last);
         }
         made += 1;
     }
-    counted(made, last)
+    counted(out, made, last)
 }

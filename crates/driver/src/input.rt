@@ -31,7 +31,7 @@ pub const SET_COUNT: u8 = 15;
 // secret, a request's handoff table and bytes, an image's words, a slice. `code` is a request's or the part
 // that is set, `number` the count of stores or the value that is set, `size` that of an answer's or an
 // entry's buffer, `words` that of the image that is lent.
-#[derive(Drop)]
+#[derive(Clone, Copy)]
 pub(crate) struct Operation {
     pub kind: u8,
     pub end: usize,

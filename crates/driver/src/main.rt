@@ -6,6 +6,8 @@
 // at an operation that the input cuts short and at an image of more than 4,096 words. The input is
 // read first: one that cannot be read gets a message on standard error, and nothing is run. Output
 // that cannot be written ends the run, with a message on standard error.
+#![tactic(auto)]
+
 mod calls;
 mod input;
 mod output;
@@ -22,31 +24,37 @@ use crate::parts::{alone, dump, lent};
 use crate::pieces::digested;
 use crate::state::{INPUT_BYTES, MEMORY_WORDS, Operated, none_in_hand};
 use layout::IMAGE_WORDS;
-use libc::{STDERR_FILENO, STDIN_FILENO};
 use machine::{InHand, POWER_CUT, STORE};
 use reading::read_whole;
+use std::io::Write;
 
 // Makes an operation on the image that is lent.
-fn operate(given: Operation, input: &[u8], image: &mut [u32], hand: InHand) -> Operated
+fn operate<W: Write>(
+    out: &mut W,
+    given: Operation,
+    input: &[u8],
+    image: &mut [u32],
+    hand: InHand,
+) -> Operated
     requires whole { Whole (length input.now) given }
     requires image_len_bound { length image.old ≤ memory_words }
 {
     let kind = given.kind;
     if kind == STORE {
-        return stores(given, input, image, hand, given.number);
+        return stores(out, given, input, image, hand, given.number);
     }
     if kind <= POWER_CUT {
-        return one_act(given, input, image, hand);
+        return one_act(out, given, input, image, hand);
     }
     if kind == DUMP {
-        return dump(image, hand);
+        return dump(out, image, hand);
     }
-    alone(given, hand)
+    alone(out, given, hand)
 }
 
 // The operations one after another, from an image of zeros and a running digest just begun, until one
 // gave something that cannot be written. Tells whether all was written.
-fn run(input: &[u8]) -> bool
+fn run<W: Write>(out: &mut W, input: &[u8]) -> bool
     requires { length input.now ≤ input_bytes }
 {
     let mut memory = [0u32; MEMORY_WORDS];
@@ -57,8 +65,8 @@ fn run(input: &[u8]) -> bool
     while at < input.len() {
         let given = read_operation(input, at);
         words = lent(given, input, &mut memory, words);
-        let made = operate(given, input, &mut memory[..words], hand);
-        let digesting = digested(given, input, state);
+        let made = operate(out, given, input, &mut memory[..words], hand);
+        let digesting = digested(out, given, input, state);
         if !(made.written && digesting.written) {
             return false;
         }
@@ -79,29 +87,24 @@ fn room() -> [u8; INPUT_BYTES]
     [0; INPUT_BYTES]
 }
 
-fn say_unread() {
-    io::write_all(
-        STDERR_FILENO,
-        b"driver: the input cannot be read: nothing was run\n",
-    );
+// These too are lost where they cannot be written.
+fn say_unread<W: Write>(errors: &mut W) {
+    let _ = errors.write_all(b"driver: the input cannot be read: nothing was run\n");
 }
 
-fn say_unwritten() {
-    io::write_all(
-        STDERR_FILENO,
-        b"driver: the output cannot be written: the run ended there\n",
-    );
+fn say_unwritten<W: Write>(errors: &mut W) {
+    let _ = errors.write_all(b"driver: the output cannot be written: the run ended there\n");
 }
 
-fn main() {
+fn main(rt: HostRuntime) {
     let mut space = room();
-    let read = read_whole(STDIN_FILENO, &mut space);
+    let read = read_whole(&mut rt.stdin(), &mut space);
     if !read.whole {
-        say_unread();
+        say_unread(&mut rt.stderr());
         return;
     }
     let n = read.count;
-    if !run(&space[..n]) {
-        say_unwritten();
+    if !run(&mut rt.stdout(), &space[..n]) {
+        say_unwritten(&mut rt.stderr());
     }
 }

@@ -8,6 +8,7 @@ use crate::state::{Operated, done};
 use layout::NODES;
 use machine::InHand;
 use slices::little_endian::read32;
+use std::io::Write;
 use table::Kind;
 use table::coding::{decode, encode};
 use work::Work;
@@ -40,19 +41,19 @@ pub(crate) fn lent(given: Operation, input: &[u8], memory: &mut [u32], words: us
 }
 
 // Writes the image.
-pub(crate) fn dump(image: &[u32], hand: InHand) -> Operated
+pub(crate) fn dump<W: Write>(out: &mut W, image: &[u32], hand: InHand) -> Operated
     requires { length image.now ≤ memory_words }
 {
-    done(hand, put_image(image))
+    done(hand, put_image(out, image))
 }
 
 // Writes how many stores the work in hand has left.
-fn put_left(hand: InHand) -> bool {
+fn put_left<W: Write>(out: &mut W, hand: InHand) -> bool {
     if !hand.present {
-        return put32(NO_WORK);
+        return put32(out, NO_WORK);
     }
     let work = hand.work;
-    put_count(work.left())
+    put_count(out, work.left())
 }
 
 // Whether a kind is a destroy, whose one number is no index.
@@ -194,16 +195,16 @@ fn gone(hand: InHand) -> Operated {
 }
 
 // Asks for the stores left.
-fn left(hand: InHand) -> Operated {
-    done(hand, put_left(hand))
+fn left<W: Write>(out: &mut W, hand: InHand) -> Operated {
+    done(hand, put_left(out, hand))
 }
 
 // What is done to the work in hand alone: it goes where another image is lent.
-pub(crate) fn alone(given: Operation, hand: InHand) -> Operated {
+pub(crate) fn alone<W: Write>(out: &mut W, given: Operation, hand: InHand) -> Operated {
     let kind = given.kind;
     match kind {
         LEND => gone(hand),
-        LEFT => left(hand),
+        LEFT => left(out, hand),
         SET => set(hand, given.code, given.number),
         _ => done(hand, true),
     }

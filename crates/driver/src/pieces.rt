@@ -5,6 +5,7 @@ ghost use Rattle.driver.specs.Run.{Whole};
 use crate::input::{BEGIN, FEED, FINISH, Operation, SET_COUNT};
 use crate::output::{put_digest, put32};
 use running::Running;
+use std::io::Write;
 
 // The running digest after an operation, and whether all that the operation gave was written.
 #[derive(Drop)]
@@ -21,20 +22,20 @@ fn silent(state: Running) -> Digesting {
     }
 }
 
-fn feed(state: Running, slice: &[u8]) -> Digesting {
+fn feed<W: Write>(out: &mut W, state: Running, slice: &[u8]) -> Digesting {
     let fed = state.feed(slice);
     let after = fed.state;
     Digesting {
         state: after,
-        written: put32(fed.number),
+        written: put32(out, fed.number),
     }
 }
 
-fn finish(state: Running) -> Digesting {
+fn finish<W: Write>(out: &mut W, state: Running) -> Digesting {
     let done = state.finish();
     Digesting {
         state,
-        written: put_digest(done),
+        written: put_digest(out, done),
     }
 }
 
@@ -51,7 +52,12 @@ fn with_count(state: Running, count: u32, value: u64) -> Running {
 }
 
 // Makes an operation on the running digest; any other leaves it.
-pub(crate) fn digested(given: Operation, input: &[u8], state: Running) -> Digesting
+pub(crate) fn digested<W: Write>(
+    out: &mut W,
+    given: Operation,
+    input: &[u8],
+    state: Running,
+) -> Digesting
     requires { Whole (length input.now) given }
 {
     let kind = given.kind;
@@ -59,8 +65,8 @@ pub(crate) fn digested(given: Operation, input: &[u8], state: Running) -> Digest
     let first_end = given.first_end;
     match kind {
         BEGIN => silent(running::begin()),
-        FEED => feed(state, &input[first..first_end]),
-        FINISH => finish(state),
+        FEED => feed(out, state, &input[first..first_end]),
+        FINISH => finish(out, state),
         SET_COUNT => silent(with_count(state, given.code, given.number as u64)),
         _ => silent(state),
     }

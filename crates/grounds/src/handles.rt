@@ -28,7 +28,7 @@ fn fresh_words(fresh: &[u8]) -> [u32; HANDLE_WORDS]
     ensures { result ≡ handle_row fresh.now }
 {
     let mut handle = [0u8; HANDLE_BYTES];
-    bytes::copy(fresh, &mut handle);
+    copying::copy(fresh, &mut handle);
     handle_words(handle)
 }
 

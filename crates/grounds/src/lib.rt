@@ -1,5 +1,7 @@
 // The dpe result by which a tree command is declined (document 02, §5), 0 where it is served. An image, a
 // command and a lent handle of any content and length.
+#![tactic(auto)]
+
 mod handles;
 
 ghost use Rattle.std.specs.Prelude.{◌≡◌};

@@ -1,4 +1,6 @@
 // The entries over a work in lent words: stores left, one store, the answer, the journal entry.
+#![tactic(auto)]
+
 ghost use Rattle.std.specs.Prelude.{◌≡◌, ◌+◌, ◌<◌, length};
 ghost use Rattle.work.specs.Entries.{store_number, store_image};
 ghost use Rattle.work.specs.Recorded.{entry_result, entry_buffer};

@@ -1,7 +1,7 @@
 -- Demand 3: every list of calls and power cuts. A cold boot's stores make the first Ground (`cold_start`); by Sim machine and ledger stay in step; what
 -- Ground says of the image is the promise, and once it is shut no store opens it (`shut_run`). Assumes nothing.
 use mathlib.Core.Path.{◌≡◌, refl, sym, ap, ◌∙◌, subst}
-use Prim.Native.Nat.{ℕ, suc, ◌+◌, ◌-◌, ◌*◌}
+use Prim.Native.Nat.{ℕ, suc, ◌-◌, ◌*◌}
 use native.Mathlib.Omega.{arith}
 use mathlib.Core.Bool.{Bool, true, false, cond, not, ◌||◌, true≢false, false≢true}
 use mathlib.Core.List.{List, [], ◌∷◌, ◌++◌}
@@ -31,13 +31,12 @@ use Rattle.opening.specs.declared.Status.TheVariants as status
 use Rattle.opening.specs.declared.BootStatus.{BootStatus}
 use Rattle.opening.specs.declared.BootStatus.TheVariants as boot_status
 use Rattle.history.specs.Calls.{Call, request, update_boot, store, answer, entry, power_cut, refusal, stored, Hand, Machine, Step, after_request, after_boot, after_store, step, run, results}
-use Rattle.history.specs.Ledger.{Contents, tree_at, Job, Ledger, blank, next, state_of, register_rows, node_rows, image_of, any, disables, is_disable_command, tears, view_of, let_go, ledger_request, ledger_boot, update_ruling, ledger_store, ledger_step, first_ledger}
+use Rattle.history.specs.Ledger.{Contents, Job, Ledger, blank, next, state_of, register_rows, node_rows, image_of, any, disables, is_disable_command, tears, view_of, let_go, ledger_request, ledger_boot, update_ruling, ledger_store, ledger_step, first_ledger}
 use Rattle.history.specs.Demand.{Shut, was_accepted, boot_ended, ends_boot, AsCounted, Kept, is_under_way, Holds, after_cold_boot, Demand3}
 use Rattle.history.proofs.Encoded.{mark_read, attestation_read, secret_read}
 use Rattle.history.proofs.Good.{Good, good_cold}
 use Rattle.history.proofs.Stores.{registers_part, nodes_part}
 use Rattle.history.proofs.Runs.{plan_at, off_plan, shut_store, counted, run_cold}
-use Rattle.history.proofs.Laws.{laws}
 use Rattle.history.proofs.Ground.{Ground, sound, locked, broken, attestation_word, image_after, ground_length, torn_plan, ruling}
 use Rattle.history.proofs.Sim.{release, carried_left, Inv, empty, done, going, Related, sim, sim_run}
 

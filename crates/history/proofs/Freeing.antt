@@ -1,16 +1,15 @@
 -- What a destroy frees (document 02, §5). The ledger frees node by node in its own list, each time looking at the list as it then stands; the work clears
 -- the nodes that were listed at its opening. Both come to the same nodes, in the same number. Assumes nothing.
 use mathlib.Core.Path.{◌≡◌, refl, sym, ap, ◌∙◌, subst, fun_ext}
-use mathlib.Core.Logic.{◌≢◌, ◌⊎◌, inl, inr}
-use Prim.Native.Nat.{ℕ, zero, suc, ◌+◌, ◌-◌, ◌≤◌, ◌<◌}
+use mathlib.Core.Logic.{◌≢◌, inl, inr}
+use Prim.Native.Nat.{ℕ, zero, suc, ◌+◌, ◌-◌, ◌<◌}
 use native.Mathlib.Nat.{zero-add, not-suc-le-zero}
 use native.Mathlib.Omega.{arith}
 use native.Mathlib.Decide.{ℕ_discrete, dec_lt}
-use mathlib.Core.Bool.{Bool, true, false, cond, not, ◌&&◌, true≢false}
+use mathlib.Core.Bool.{Bool, true, false, cond, true≢false}
 use mathlib.Core.List.{List, [], ◌∷◌, ◌++◌}
-use mathlib.Core.Option.{Option, none, some}
-use lib.Dec.{leb}
-use lib.ListN.{length, get_or, set, drop, length-set, get_or-append, get_or-eq_default}
+use mathlib.Core.Option.{Option, none}
+use lib.ListN.{length, get_or, set, length-set, get_or-append, get_or-eq_default}
 use lib.Seq.{get_or-set_same, get_or-set_other}
 use borrow.Author.Tests.{le-leb}
 use Rattle.layout.specs.Sizes.{node_count, node_words, locality_at, mark_at}
@@ -18,12 +17,12 @@ use Rattle.layout.specs.Words.{zeros}
 use Rattle.layout.specs.Below.{count_below}
 use Rattle.tree.specs.Tree.{Place, free_place, Tree, is_root, childless, goes_too, freed_within, freed_by}
 use Rattle.tree.specs.Statements.{In}
-use Rattle.tree.proofs.Rooted.{placed, placed_same, placed_other, root_used, Rooted}
+use Rattle.tree.proofs.Rooted.{placed, placed_same, placed_other}
 use Rattle.tree.proofs.WellFormed.{Formed}
 use Rattle.tree.proofs.Freeing.{Once, cleared, freed_is, freed_few, freed_below, freed_each, freed_once, freed_bound, formed_freed, goes_root, Needs, least, needs_none, needs_up}
 use Rattle.tree.proofs.StepByStep.{left_in, Thinned, at_parent, left_goes, thinned_more}
 use Rattle.nodes.specs.Record.{Node, place_of, tree_of}
-use Rattle.table.specs.Table.{Run, one, clear, destroy_runs}
+use Rattle.table.specs.Table.{one, clear, destroy_runs}
 use Rattle.table.specs.declared.Kind.TheVariants.{Destroy}
 use Rattle.table.specs.declared.Put.{Put}
 use Rattle.work.specs.Entries.{runs_of}

@@ -25,7 +25,8 @@ use Rattle.opening.specs.Rules.{refuses, wrong_checksum, Command, command_of, se
 use Rattle.opening.specs.Works.{facts_of}
 use Rattle.opening.proofs.Decided.{NoneApply, ruled_decided, negated}
 use Rattle.opening.proofs.Recorded.{Told}
-use Rattle.command_laws.proofs.ByCommand.{Steady, Granted, Served, CommandLaw, declined_short, command_law}
+use Rattle.command_laws.proofs.ByCommand.{Steady, Granted, Served, CommandLaw, declined_short}
+use Rattle.command_laws.proofs.ByCode.{command_law}
 use Rattle.opening.specs.declared.Outcome.{Outcome}
 use Rattle.opening.specs.Openings.{view_in, intact}
 use Rattle.history.specs.Ledger.{Chain, Contents, tree_at, next, blank, state_of, kind_at, image_of, any, disables, is_none, is_disable_command, is_off, view_of}

@@ -19,12 +19,12 @@ use Rattle.table.specs.Table.{number_of, index_ok}
 use Rattle.table.specs.declared.Put.{Put}
 use Rattle.work.proofs.Plans.{apply}
 use Rattle.opening.specs.Orders.{NodeCommand, derive, extend, rotate, destroy, malformed}
-use Rattle.opening.specs.Tasks.{Measurement, RegisterExtension, Order, Task, no_stores, kept_boot, disable_command, disabling_boot, stash, update, cold_boot, extension, invoke}
+use Rattle.opening.specs.Tasks.{Measurement, RegisterExtension, Task, no_stores, kept_boot, disable_command, disabling_boot, stash, update, cold_boot, extension, invoke}
 use Rattle.command_laws.proofs.ByCommand.{Granted}
 use Rattle.opening.specs.Works.{facts_of}
 use Rattle.opening.specs.declared.Outcome.{Outcome}
 use Rattle.opening.specs.declared.Outcome.TheVariants.{Cold, Kept, Updated, Disabled}
-use Rattle.history.specs.Ledger.{Chain, Contents, tree_at, next_nodes, next_chain, next, kind_at, image_of, disables}
+use Rattle.history.specs.Ledger.{Chain, Contents, tree_at, next_chain, next, kind_at, image_of, disables}
 use Rattle.history.proofs.Good.{Good, good_tree, good_cold, good_register, good_stash, good_update}
 use Rattle.history.proofs.Runs.{plan_at, off_plan, command_plan, boot_plan, run_off, run_stash, run_update, run_extension}
 use Rattle.history.proofs.Orders.{good_derive, run_derive, good_extend, run_extend, good_rotate, run_rotate}

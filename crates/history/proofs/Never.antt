@@ -22,7 +22,8 @@ use Rattle.history.specs.Ledger.{Job, Ledger, state_of, is_off, let_go, view_of,
 use Rattle.history.specs.Demand.{after_cold_boot}
 use Rattle.history.proofs.Good.{formed_good}
 use Rattle.history.proofs.Ground.{Ground, sound, locked, broken, ruling}
-use Rattle.command_laws.proofs.ByCommand.{Not11, No11, command_law}
+use Rattle.command_laws.proofs.ByCommand.{Not11, No11}
+use Rattle.command_laws.proofs.ByCode.{command_law}
 use Rattle.history.proofs.Sim.{Related, sim, sim_run, release, rule_torn}
 use Rattle.history.proofs.Demand.{cold_start, store_cases}
 

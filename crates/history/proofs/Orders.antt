@@ -6,10 +6,10 @@ use Prim.Native.Nat.{ℕ, ◌+◌, ◌*◌, ◌-◌, ◌≤◌, ◌<◌}
 use native.Mathlib.Nat.{zero-add}
 use native.Mathlib.Decide.{dec_lt}
 use native.Mathlib.Omega.{arith}
-use mathlib.Core.Bool.{Bool, true, false, cond, not, ◌&&◌, ◌||◌, true≢false}
+use mathlib.Core.Bool.{Bool, true, false, cond, not, ◌||◌, true≢false}
 use mathlib.Core.List.{List, [], ◌∷◌, ◌++◌}
 use mathlib.Core.Option.{Option, none, some}
-use lib.Dec.{eqb, ltb, lit<, lit≤}
+use lib.Dec.{eqb, ltb}
 use lib.ListN.{length, get_or, set, drop, length-append, get_or-append}
 use lib.Seq.{sets, get_or-append-add, get_or-set_other}
 use borrow.Author.Tests.{ltb-false}
@@ -18,8 +18,8 @@ use Rattle.layout.specs.Words.{words48, bytes48}
 use Rattle.layout.proofs.Blocks.{sets_join, sets_whole}
 use Rattle.sha384.specs.Entries.{extended}
 use Rattle.sha384.proofs.Sizes.{measure_extended}
-use Rattle.tree.specs.Tree.{Tree, default_words, retired_words, same_handle, is_root, node_with, lowest_free}
-use Rattle.tree.specs.Nodes.{tree_in, cumulative_in}
+use Rattle.tree.specs.Tree.{Tree, default_words, retired_words, same_handle, node_with, lowest_free}
+use Rattle.tree.specs.Nodes.{cumulative_in}
 use Rattle.tree.proofs.WellFormed.{has_used, has_not, with_there, with_none}
 use Rattle.nodes.specs.Record.{Node, handle_row, node_row, place_row, measurements_row, handle_placed, with_handle, with_current, with_cumulative, retired_handle}
 use Rattle.nodes.proofs.Rows.{length_handle, length48, length_row, store_handle, store_current, store_cumulative, measurements_current, measurements_cumulative, placed_handle}
@@ -29,16 +29,16 @@ use Rattle.table.specs.declared.Put.{Put}
 use Rattle.work.specs.Entries.{runs_of}
 use Rattle.making.specs.Made.{work_with}
 use Rattle.work.proofs.Plans.{apply, stores_in, plan, run_part}
-use Rattle.opening.specs.Orders.{NodeCommand, derive, extend, rotate, traits_of, named_in, unfit}
+use Rattle.opening.specs.Orders.{derive, extend, rotate, traits_of, named_in, unfit}
 use Rattle.opening.specs.Tasks.{Order, invoke}
 use Rattle.opening.specs.Rules.{order_rules}
 use Rattle.opening.specs.Values.{derived_node}
 use Rattle.opening.specs.Works.{with_caller, work_at}
 use Rattle.opening.proofs.Decided.{NoneApply}
 use Rattle.command_laws.proofs.ByOrder.{named_there, derive_room}
-use Rattle.history.specs.Ledger.{Chain, Contents, tree_at, changed, renewed, changed_at, next_nodes, next_chain, next, image_of}
+use Rattle.history.specs.Ledger.{Chain, Contents, tree_at, changed, renewed, next_nodes, next_chain, next, image_of}
 use Rattle.history.proofs.Good.{Good, node_at_law, free_apart, good_tree, cumulative_read, good_rotated, good_extended, good_grown, good_replaced}
-use Rattle.history.proofs.Stores.{with_node, Counted, sets_node}
+use Rattle.history.proofs.Stores.{with_node, sets_node}
 use Rattle.history.proofs.Runs.{plan_at, counted, mark_run, child_run}
 
 -- ---- what a fit handle is

@@ -1,34 +1,33 @@
 -- The journal byte by byte: what is kept says what a walk over the bytes so far comes to, whatever follows. Assumes nothing.
 use mathlib.Core.Path.{◌≡◌, refl, sym, ap, ◌∙◌, subst}
-use Prim.Native.Nat.{ℕ, zero, suc, ◌+◌, ◌-◌, ◌≤◌, ◌<◌}
+use Prim.Native.Nat.{ℕ, zero, suc, ◌+◌, ◌<◌}
 use native.Mathlib.Omega.{arith}
-use native.Mathlib.Decide.{ℕ_discrete, dec_lt}
+use native.Mathlib.Decide.{ℕ_discrete}
 use mathlib.Core.Logic.{inl, inr}
-use mathlib.Core.Bool.{Bool, true, false, cond, not, true≢false}
+use mathlib.Core.Bool.{Bool, true, false, true≢false}
 use mathlib.Core.List.{List, [], ◌∷◌, ◌++◌, append_assoc, append-nil}
 use mathlib.Core.Option.{Option, none, some}
-use lib.Dec.{eqb, leb}
-use lib.ListN.{length, set, take, drop, length-append, length-set}
+use lib.ListN.{length, set, take, length-append, length-set}
 use lib.Seq.{length-take-le}
 use borrow.Author.Tests.{eq-eqb, ne_eqb, le-leb, lt-leb}
-use Rattle.layout.specs.Refusals.{unlisted_kind, bad_number, cut_entry, uncounted}
+use Rattle.layout.specs.Refusals.{cut_entry, uncounted}
 use Rattle.journal.specs.Read.{Read, refused, got, map_read}
 use Rattle.journal.specs.Fields.{Values, read_fields}
 use Rattle.journal.specs.Entries.{Entry, Form, form_at, fields_of, entry_of, entry_bytes, read_form, read_entry, longest}
-use Rattle.journal.specs.Journal.{Walked, stopped, ended, walk}
+use Rattle.journal.specs.Journal.{Walked, stopped, walk}
 use Rattle.journal.specs.Statements.{Bytes, Takes}
 use Rattle.journal.proofs.Says.{Says}
 use Rattle.journal.proofs.Bytes.{bytes_rest}
 use Rattle.journal.proofs.Entries.{read_entry_law, EntryIs, entry_says}
 use Rattle.journal.proofs.Behind.{entry_takes, Leaves, fields_leave}
-use Rattle.journal.proofs.Journal.{walk_end, walk_refused, piece_got, piece_uncounted, piece_refused}
+use Rattle.journal.proofs.Journal.{piece_got, piece_uncounted, piece_refused}
 use Rattle.replaying.specs.Replay.{Replay, fresh, countable, counted, count}
 use Rattle.replaying.specs.Report.{journal_max}
 use Rattle.recount.specs.OnImage.{made_on}
 use Rattle.recount.proofs.Shown.{shown, Reach}
 use Rattle.recount.proofs.Counting.{recount_made, recount_none}
 use Rattle.inspection.specs.declared.reader.Reader.{Reader}
-use Rattle.inspection.specs.Stages.{Stage, reader_of, stage_of, refused_with, waiting_with, counted_with, read_with, so_far, journal_byte}
+use Rattle.inspection.specs.Stages.{Stage, refused_with, waiting_with, counted_with, read_with, so_far, journal_byte}
 
 -- one byte more behind those that wait
 pub set_behind : (l : List ℕ) (k b : ℕ) → k < length l → take (k + 1) (set l k b) ≡ take k l ++ (b ∷ [])

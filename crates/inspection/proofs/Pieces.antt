@@ -1,12 +1,12 @@
 -- Wherever the input is cut, the inspection tells what the program is defined to write. Assumes nothing.
 use mathlib.Core.Path.{◌≡◌, refl, sym, ap, ◌∙◌, subst}
-use Prim.Native.Nat.{ℕ, zero, suc, ◌+◌, ◌-◌, ◌*◌, ◌≤◌, ◌<◌}
+use Prim.Native.Nat.{ℕ, zero, suc, ◌+◌, ◌≤◌, ◌<◌}
 use native.Mathlib.Omega.{arith}
 use native.Mathlib.Decide.{ℕ_discrete, dec_lt}
 use mathlib.Core.Bool.{Bool, true, false, cond, not}
 use mathlib.Core.List.{List, [], ◌∷◌, ◌++◌, foldl, foldl-append, append_assoc, append-nil}
 use lib.Dec.{eqb, leb, ltb}
-use lib.ListN.{length, get_or, set, take, drop, length-append, length-set, length-take, length-drop, take-append-drop}
+use lib.ListN.{length, set, take, drop, length-append, length-set, take-append-drop}
 use lib.Seq.{length-take-le, take_all, take-append-le}
 use borrow.Author.Tests.{eq-eqb, ne_eqb, lt-ltb, le-ltb}
 use Rattle.layout.specs.Sizes.{image_words}
@@ -17,19 +17,18 @@ use mathlib.Core.Option.{Option, none, some}
 use Rattle.journal.specs.Entries.{Entry, read_entry, longest}
 use Rattle.journal.specs.Read.{Read, refused, got}
 use Rattle.journal.proofs.Entries.{entry_none}
-use Rattle.journal.specs.Journal.{Walked, stopped, ended, walk}
+use Rattle.journal.specs.Journal.{walk}
 use Rattle.journal.specs.Statements.{Bytes}
 use Rattle.journal.proofs.Bytes.{bytes_rest, bytes_front}
 use Rattle.journal.proofs.Journal.{walk_end, walk_refused}
-use Rattle.replaying.specs.Replay.{Replay, fresh, count, replay}
-use Rattle.replaying.specs.Report.{image_bytes, journal_max, verdict, report, output}
-use Rattle.recount.proofs.Shown.{shown, Reach, unbooted}
-use Rattle.inspection.specs.declared.reader.Reader.{Reader}
+use Rattle.replaying.specs.Replay.{fresh, count, replay}
+use Rattle.replaying.specs.Report.{image_bytes, journal_max, report, output}
+use Rattle.recount.proofs.Shown.{unbooted}
 use Rattle.recount.specs.OnImage.{made_on}
 use Rattle.inspection.specs.Stages.{Stage, reader_of, stage_of, begun, with_saved, refused_with, waiting_with, counted_with, read_with, so_far, journal_byte, one_byte, fed_with, verdict_at, told}
 use Rattle.inspection.specs.Pieces.{at_first, Pieces}
 use Rattle.inspection.proofs.Verdict.{verdict_same}
-use Rattle.inspection.proofs.Along.{Stopped, Going, Along, stays, goes, full, one_more, set_behind}
+use Rattle.inspection.proofs.Along.{Going, Along, stays, goes, full, one_more, set_behind}
 
 -- ---- pieces one after another are their bytes
 

@@ -1,26 +1,26 @@
 -- The verdict that the scratch image tells is the replay's. Assumes nothing.
-use mathlib.Core.Path.{◌≡◌, refl, sym, ap, ap₂, ◌∙◌, subst}
-use Prim.Native.Nat.{ℕ, zero, suc, ◌+◌, ◌-◌, ◌*◌, ◌/◌, ◌%◌, ◌≤◌, ◌<◌}
+use mathlib.Core.Path.{◌≡◌, refl, sym, ap, ap₂, ◌∙◌}
+use Prim.Native.Nat.{ℕ, zero, suc, ◌+◌, ◌-◌, ◌*◌, ◌/◌, ◌%◌, ◌<◌}
 use native.Mathlib.Omega.{arith}
 use mathlib.Core.Bool.{Bool, true, false, cond, ◌&&◌}
 use mathlib.Core.List.{List, [], ◌∷◌, ◌++◌, append-nil}
 use lib.Dec.{eqb}
 use lib.ListN.{length, get_or, take, drop, length-drop}
 use lib.Seq.{get_or-take, get_or-drop}
-use Rattle.layout.specs.Sizes.{image_words, register_words, register_count, registers_at, register_at, current_register, mark_at, attestation_at}
-use Rattle.layout.specs.Words.{zeros, flat, le32, byte_of, words48, words_at, bytes_in, part}
+use Rattle.layout.specs.Sizes.{image_words, register_words, register_count, registers_at, register_at, current_register, mark_at}
+use Rattle.layout.specs.Words.{flat, le32, byte_of, words48, words_at, bytes_in, part}
 use Rattle.layout.specs.Below.{all_below}
 use Rattle.layout.proofs.Tab.{get_d_zeros, tab_is}
 use Rattle.layout.proofs.Packing.{get_d_words, get_d_bytes, get_d_part, bytes_words}
 use Rattle.layout.proofs.Blocks.{Sized, length_flat, get_d_flat}
-use Rattle.history.specs.Ledger.{Contents, Chain, register_rows, node_rows, state_of, image_of, any, disables}
+use Rattle.history.specs.Ledger.{Contents, register_rows, node_rows, state_of, image_of, any, disables}
 use Rattle.history.proofs.Encoded.{mark_read, attestation_read, register_words_law}
 use Rattle.history.proofs.Good.{Good}
 use Rattle.history.proofs.Runs.{counted}
 use Rattle.history.proofs.Stores.{registers_part, nodes_part}
 use Rattle.history.proofs.Ground.{attestation_word}
-use Rattle.replaying.specs.Replay.{Replay, fresh}
-use Rattle.replaying.specs.Report.{image_bytes, compared_at, compared_rows, alike, registers_told, verdict}
+use Rattle.replaying.specs.Replay.{Replay}
+use Rattle.replaying.specs.Report.{image_bytes, compared_at, alike, registers_told, verdict}
 use Rattle.replaying.proofs.Inspected.{image_rows, compared_word}
 use Rattle.recount.proofs.Shown.{shown, Reach, unbooted, booted}
 use Rattle.inspection.specs.Stages.{Stage, same_from, told_words, verdict_at}

@@ -1,5 +1,5 @@
 -- An inspection that is fed byte by byte: what is kept between bytes, and what is told at the end. Assumes nothing.
-use Rattle.std.specs.Prelude.{ℕ, ◌+◌, ◌-◌, ◌*◌, Bool, cond, not, ◌&&◌, eqb, leb, ltb, length, get_or, set, take}
+use Rattle.std.specs.Prelude.{ℕ, ◌+◌, ◌-◌, ◌*◌, Bool, cond, not, eqb, leb, ltb, length, get_or, set, take}
 use mathlib.Core.List.{List, [], ◌∷◌, ◌++◌, foldl}
 use Rattle.std.proofs.Math.Option.{Option, none, some}
 use Rattle.layout.specs.Sizes.{image_words, register_words, register_count, current_register, mark_at, attestation_at}

@@ -58,7 +58,8 @@ fn push_journal(reader: Reader, scratch: &mut [u32], b: u8) -> Reader
     waiting[held] = b;
     let end = held + 1;
     let read = read_entry(&waiting[..end]);
-    if read.number == CUT_ENTRY {
+    let waits = read.number == CUT_ENTRY;
+    if waits {
         return Reader {
             seen: reader.seen,
             number: 0,

@@ -23,7 +23,7 @@ const REGISTER_BYTES: usize = 4 * REGISTER_WORDS * (REGISTERS - 2);
 pub const TOLD_MAX: usize = HEAD_BYTES + 1 + REGISTER_BYTES;
 
 // What is written: its first `len` bytes; the others are zero.
-#[derive(Drop)]
+#[derive(Clone, Copy)]
 pub struct Told {
     pub bytes: [u8; TOLD_MAX],
     pub len: usize,
@@ -53,8 +53,8 @@ fn joined(front: [u8; HEAD_BYTES], back: &[u8]) -> Told
     ensures { result ≡ told_in (front ++ back.now) }
 {
     let mut bytes = [0u8; TOLD_MAX];
-    bytes::copy(&front, &mut bytes);
-    bytes::copy(back, &mut bytes[HEAD_BYTES..]);
+    copying::copy(&front, &mut bytes);
+    copying::copy(back, &mut bytes[HEAD_BYTES..]);
     Told {
         bytes,
         len: HEAD_BYTES + back.len(),

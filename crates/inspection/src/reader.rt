@@ -13,7 +13,7 @@ pub const JOURNAL_MAX: usize = 0x100000000;
 
 // `seen` counts the saved image's bytes. `number` is 0, or the refusal's; `offset` is where the refused
 // entry, or the one that waits, begins in the journal, and `held` bytes of it are in `waiting`.
-#[derive(Drop)]
+#[derive(Clone, Copy)]
 pub struct Reader {
     pub seen: usize,
     pub number: u32,

@@ -26,8 +26,8 @@ fn handles(first: [u8; HANDLE_BYTES], second: [u8; HANDLE_BYTES]) -> [u8; 48]
     ensures { result ≡ first ++ (second ++ zeros (48 - 2 * handle_bytes)) }
 {
     let mut out = [0u8; 48];
-    bytes::copy(&first, &mut out);
-    bytes::copy(&second, &mut out[HANDLE_BYTES..]);
+    copying::copy(&first, &mut out);
+    copying::copy(&second, &mut out[HANDLE_BYTES..]);
     out
 }
 

@@ -1,5 +1,7 @@
 // A tree command's work (document 02, §5): its kind, and the values that it will store. Every image, every
 // command and a fresh handle of any length have one; whether a command is accepted is not asked here.
+#![tactic(auto)]
+
 mod inputs;
 mod rows;
 
@@ -23,7 +25,7 @@ use table::{Kind, StashAt};
 use tree::freed::freed_by;
 use tree::index::{free_index, handle_index};
 
-#[derive(Drop)]
+#[derive(Clone, Copy)]
 pub struct Planned {
     pub kind: Kind,
     pub values: Values,

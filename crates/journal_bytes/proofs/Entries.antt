@@ -215,7 +215,7 @@ module _ (l : List ℕ) (r : EntryRead) (e : r ≡ entry_read l) where
   unfolding entry_read
   entry_not ne = told_not l r (read_entry l) e ne
 
--- ---- what `bytes::copy` leaves of a part that fills its target
+-- ---- what `copying::copy` leaves of a part that fills its target
 pub copied_whole : (s d : List ℕ) (a n m : ℕ) → n ≡ m → m ≤ length s - a → length d ≡ m
     → take (length (take n (drop a s))) (take n (drop a s)) ++ drop (length (take n (drop a s))) d ≡ take m (drop a s)
 copied_whole s d a n m e h k =

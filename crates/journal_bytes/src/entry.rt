@@ -24,7 +24,7 @@ pub const ROTATE_BYTE: u8 = 8;
 
 pub const DESTROY_BYTE: u8 = 9;
 
-#[derive(Drop)]
+#[derive(Clone, Copy)]
 pub enum EntryKind {
     ColdBoot,
     Update,
@@ -40,7 +40,7 @@ pub enum EntryKind {
 // `first` is a boot's runtime digest or the one digest; `second` a boot's manifest digest, or a tree
 // command's handle and fresh handle, one after the other; `value` is the type of a stash or a derived child,
 // or an extension's register. What a kind lacks is not looked at.
-#[derive(Drop)]
+#[derive(Clone, Copy)]
 pub struct EntryParts {
     pub kind: EntryKind,
     pub value: u32,

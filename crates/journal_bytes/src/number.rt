@@ -9,7 +9,7 @@ ghost use Rattle.journal_bytes.specs.Fields.{later_read};
 use layout::refusals::{BAD_NUMBER, CUT_ENTRY};
 
 // `number` is 0, or the refusal's; then the value, and how many bytes it took.
-#[derive(Drop)]
+#[derive(Clone, Copy)]
 pub struct NumberRead {
     pub number: u32,
     pub value: u32,

@@ -14,20 +14,20 @@ use layout::HANDLE_BYTES;
 use layout::refusals::{CUT_ENTRY, UNLISTED_KIND};
 
 // `number` is 0, or the refusal's; then the bytes.
-#[derive(Drop)]
+#[derive(Clone, Copy)]
 pub struct DigestRead {
     pub number: u32,
     pub bytes: [u8; DIGEST_BYTES],
 }
 
-#[derive(Drop)]
+#[derive(Clone, Copy)]
 pub struct HandleRead {
     pub number: u32,
     pub bytes: [u8; HANDLE_BYTES],
 }
 
 // `number` is 0, or the refusal's; then the fields, and how many bytes they took.
-#[derive(Drop)]
+#[derive(Clone, Copy)]
 pub struct DeriveRead {
     pub number: u32,
     pub handle: [u8; HANDLE_BYTES],
@@ -38,7 +38,7 @@ pub struct DeriveRead {
 }
 
 // `number` is 0, or the refusal's; then the entry, and how many bytes it took.
-#[derive(Drop)]
+#[derive(Clone, Copy)]
 pub struct EntryRead {
     pub number: u32,
     pub entry: EntryParts,
@@ -97,7 +97,7 @@ pub fn read_digest(s: &[u8], at: usize) -> DigestRead
         return DigestRead { number, bytes };
     }
     let end = at + DIGEST_BYTES;
-    bytes::copy(&s[at..end], &mut bytes);
+    copying::copy(&s[at..end], &mut bytes);
     DigestRead { number, bytes }
 }
 
@@ -112,7 +112,7 @@ pub fn read_handle(s: &[u8], at: usize) -> HandleRead
         return HandleRead { number, bytes };
     }
     let end = at + HANDLE_BYTES;
-    bytes::copy(&s[at..end], &mut bytes);
+    copying::copy(&s[at..end], &mut bytes);
     HandleRead { number, bytes }
 }
 
@@ -170,8 +170,8 @@ fn handles(handle: [u8; HANDLE_BYTES], fresh: [u8; HANDLE_BYTES]) -> [u8; DIGEST
     ensures { result ≡ handles_in handle fresh }
 {
     let mut out = [0u8; DIGEST_BYTES];
-    bytes::copy(&handle, &mut out);
-    bytes::copy(&fresh, &mut out[HANDLE_BYTES..]);
+    copying::copy(&handle, &mut out);
+    copying::copy(&fresh, &mut out[HANDLE_BYTES..]);
     out
 }
 

@@ -13,7 +13,7 @@ use layout::HANDLE_BYTES;
 use layout::refusals::SHORT_ENTRY;
 
 // `number` is 0, or 23 with nothing written; then how many bytes were written.
-#[derive(Drop)]
+#[derive(Clone, Copy)]
 pub struct Taken {
     pub number: u32,
     pub written: usize,
@@ -225,7 +225,7 @@ pub fn write_entry(entry: EntryParts, buffer: &mut [u8]) -> Taken
             written: 0,
         };
     }
-    bytes::copy(&draft[..n], buffer);
+    copying::copy(&draft[..n], buffer);
     Taken {
         number: 0,
         written: n,

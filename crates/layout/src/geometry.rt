@@ -10,7 +10,7 @@ use crate::{
     REGISTERS_AT, RETIRED_WORD, ROOT_MARK, ROOT_TYPE, SECRET_AT, STASH_REGISTER, SVN_AT, TYPE_AT,
 };
 
-#[derive(Drop)]
+#[derive(Clone, Copy)]
 pub struct Geometry {
     pub registers: usize,
     pub register_words: usize,

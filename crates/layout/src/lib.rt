@@ -2,6 +2,8 @@
 //
 // The number of nodes and the words of a node are named here and in specs/Sizes.antt. As numerals
 // they stand again only in specs/Figures.antt and on the bench cards, on which no law rests.
+#![tactic(auto)]
+
 pub mod geometry;
 pub mod refusals;
 pub mod registers;

@@ -138,8 +138,8 @@ pub(crate) fn store_call(image: &mut [u32], hand: InHand) -> Made
 
 // The answer of the work in hand into a buffer. With none in hand it does nothing.
 pub(crate) fn answer_call(hand: InHand, buffer: &mut [u8]) -> Made
-    ensures by_index { (image : List ℕ) → step_of result image buffer.new ≡ step (machine_of image hand) (answer buffer.old) }
-    ensures by_index_2 { (image : List ℕ) → buffer.new ≡ buffer_after (step (machine_of image hand) (answer buffer.old)).result buffer.old }
+    ensures step_made { (image : List ℕ) → step_of result image buffer.new ≡ step (machine_of image hand) (answer buffer.old) }
+    ensures buffer_left { (image : List ℕ) → buffer.new ≡ buffer_after (step (machine_of image hand) (answer buffer.old)).result buffer.old }
 {
     if !hand.present {
         return made(hand, Report::NoWork);
@@ -151,8 +151,8 @@ pub(crate) fn answer_call(hand: InHand, buffer: &mut [u8]) -> Made
 
 // The journal entry of the work in hand into a buffer. With none in hand it does nothing.
 pub(crate) fn entry_call(hand: InHand, buffer: &mut [u8]) -> Made
-    ensures by_index { (image : List ℕ) → step_of result image buffer.new ≡ step (machine_of image hand) (entry buffer.old) }
-    ensures by_index_2 { (image : List ℕ) → buffer.new ≡ buffer_after (step (machine_of image hand) (entry buffer.old)).result buffer.old }
+    ensures step_made { (image : List ℕ) → step_of result image buffer.new ≡ step (machine_of image hand) (entry buffer.old) }
+    ensures buffer_left { (image : List ℕ) → buffer.new ≡ buffer_after (step (machine_of image hand) (entry buffer.old)).result buffer.old }
 {
     if !hand.present {
         return made(hand, Report::NoWork);

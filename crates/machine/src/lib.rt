@@ -1,5 +1,7 @@
 // One act of demand 3's machine, made through the entries on a lent image, the work in hand and a
 // lent buffer. What runs a list by `make` in a loop runs what the theorem of demand 3 is about.
+#![tactic(auto)]
+
 mod calls;
 
 ghost use Rattle.std.specs.Prelude.{◌≡◌};
@@ -14,7 +16,7 @@ use opening::Outcome;
 use work::Work;
 
 // The work in hand, and whether a boot opened it. Not `present`: none is in hand.
-#[derive(Drop)]
+#[derive(Clone, Copy)]
 pub struct InHand {
     pub present: bool,
     pub boot: bool,
@@ -23,7 +25,7 @@ pub struct InHand {
 
 // What an act reports: a refusal's number, or what was made, with the stores left; of an answer or a
 // journal entry its number and the bytes written.
-#[derive(Drop)]
+#[derive(Clone, Copy)]
 pub enum Report {
     Refused(u32),
     Opened(usize),
@@ -36,7 +38,7 @@ pub enum Report {
 }
 
 // The work in hand after an act, and the act's report.
-#[derive(Drop)]
+#[derive(Clone, Copy)]
 pub struct Made {
     pub hand: InHand,
     pub report: Report,
@@ -73,8 +75,8 @@ pub fn make(
     secret: &[u8],
     buffer: &mut [u8],
 ) -> Made
-    ensures buffer_after { step_of result image.new buffer.new ≡ act (machine_of image.old hand) (act_of op (request_of code bytes.now caller handoff.now verdict fresh.now) (boot_of runtime.now manifest.now secret.now) buffer.old) }
-    ensures buffer_after_2 { buffer.new ≡ buffer_after (act (machine_of image.old hand) (act_of op (request_of code bytes.now caller handoff.now verdict fresh.now) (boot_of runtime.now manifest.now secret.now) buffer.old)).result buffer.old }
+    ensures step_made { step_of result image.new buffer.new ≡ act (machine_of image.old hand) (act_of op (request_of code bytes.now caller handoff.now verdict fresh.now) (boot_of runtime.now manifest.now secret.now) buffer.old) }
+    ensures buffer_left { buffer.new ≡ buffer_after (act (machine_of image.old hand) (act_of op (request_of code bytes.now caller handoff.now verdict fresh.now) (boot_of runtime.now manifest.now secret.now) buffer.old)).result buffer.old }
 {
     match op {
         REQUEST => request_call(

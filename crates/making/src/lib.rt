@@ -1,4 +1,6 @@
 // Works as an opening makes them, and all stores of a work (`run`).
+#![tactic(auto)]
+
 pub mod run;
 
 ghost use Rattle.std.specs.Prelude.{◌≡◌, []};
@@ -9,7 +11,7 @@ use table::Kind;
 use work::Work;
 
 // The words that a work will store and the inputs that its entry tells, as its fields of these names.
-#[derive(Drop)]
+#[derive(Clone, Copy)]
 pub struct Values {
     pub register: [u32; REGISTER_WORDS],
     pub journey: [u32; REGISTER_WORDS],
@@ -19,7 +21,7 @@ pub struct Values {
 }
 
 // An answer: its first `len` bytes; the others are zero.
-#[derive(Drop)]
+#[derive(Clone, Copy)]
 pub struct Answer {
     pub bytes: [u8; ANSWER_MAX],
     pub len: usize,

@@ -1,4 +1,6 @@
 // The mailbox checksum (document 01, "Mailbox").
+#![tactic(auto)]
+
 ghost use Rattle.std.specs.Prelude.{◌≡◌, ◌%◌, ◌^◌, ◌<◌};
 ghost use Rattle.message.specs.Checksum.{sum_of, checksum_of};
 

@@ -1,4 +1,6 @@
 // A node's words as a boot, a stash or a derive makes them, with tag 0; and the words of a handle.
+#![tactic(auto)]
+
 ghost use Rattle.std.specs.Prelude.{◌≡◌, ◌<◌, get_or};
 ghost use Rattle.layout.specs.Sizes.{node_words};
 ghost use Rattle.layout.specs.Words.{words48, flat};

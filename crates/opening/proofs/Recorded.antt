@@ -1,9 +1,9 @@
 -- A work that is opened for a task gives that task's journal entry. Assumes nothing.
 use mathlib.Core.Path.{◌≡◌, refl, sym, ap, ◌∙◌}
-use Prim.Native.Nat.{ℕ, zero, suc, ◌+◌, ◌-◌, ◌≤◌, ◌<◌}
+use Prim.Native.Nat.{ℕ, zero, suc, ◌-◌, ◌≤◌}
 use native.Mathlib.Omega.{arith}
 use mathlib.Core.List.{List, [], ◌∷◌, ◌++◌, append-nil}
-use lib.ListN.{length, get_or, take, drop, length-append}
+use lib.ListN.{length, take, drop, length-append}
 use lib.Seq.{take_all, take-append_seam, drop-append_seam, get_or-set_same}
 use Rattle.layout.specs.Sizes.{node_count, node_words, handle_bytes, locality_at}
 use Rattle.layout.proofs.Tab.{length_zeros}

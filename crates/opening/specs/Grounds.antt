@@ -7,7 +7,6 @@ use Rattle.layout.specs.Words.{zeros}
 use Rattle.tree.specs.Tree.{Place, free_place, Tree, freed_by}
 use Rattle.nodes.specs.Record.{default_handle, retired_handle, handle_row}
 use Rattle.opening.specs.Orders.{NodeCommand, derive, extend, rotate, destroy, malformed}
-use Rattle.opening.specs.Tasks.{Order, Measurement, View}
 use Rattle.opening.specs.Rules.{Verdict, refuse, decline, Rule, stash_rules, invoke_rules}
 
 -- the first rule that applies

@@ -15,7 +15,7 @@ use Rattle.work.specs.declared.Work.{Work}
 use Rattle.making.specs.declared.Values.{Values}
 use Rattle.opening.specs.Values.{extended_by_boot, stashed_node, derived_node, root_node}
 use Rattle.opening.specs.Orders.{NodeCommand, derive, extend, rotate, destroy, malformed, traits_of, named_in}
-use Rattle.opening.specs.Tasks.{BootInputs, Measurement, RegisterExtension, Order, Task, no_stores, kept_boot, disable_command, disabling_boot, stash, update, cold_boot, extension, invoke}
+use Rattle.opening.specs.Tasks.{BootInputs, Measurement, RegisterExtension, Task, no_stores, kept_boot, disable_command, disabling_boot, stash, update, cold_boot, extension, invoke}
 use Rattle.opening.specs.declared.Outcome.{Outcome}
 use Rattle.opening.specs.declared.Outcome.TheVariants.{Cold, Kept, Updated, Disabled}
 

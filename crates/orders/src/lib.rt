@@ -1,4 +1,6 @@
 // The data of INVOKE_DPE_COMMAND (document 02, §5), read as one of the four tree commands.
+#![tactic(auto)]
+
 ghost use Rattle.std.specs.Prelude.{◌≡◌, ◌≤◌, length, drop};
 ghost use Rattle.journal.specs.Fields.{read_fields};
 ghost use Rattle.journal.specs.Entries.{derive_fields, extend_fields, handle_fields};
@@ -18,7 +20,7 @@ const ROTATE_COMMAND: u8 = 3;
 
 const DESTROY_COMMAND: u8 = 4;
 
-#[derive(Drop)]
+#[derive(Clone, Copy)]
 pub enum Operation {
     Derive,
     Extend,
@@ -28,7 +30,7 @@ pub enum Operation {
 }
 
 // What a command lacks is zero. A derive's `retain` may be any number.
-#[derive(Drop)]
+#[derive(Clone, Copy)]
 pub struct Order {
     pub operation: Operation,
     pub handle: [u8; HANDLE_BYTES],

@@ -1,5 +1,7 @@
 // Words of a memory image, at any index of an image of any length, and the bytes that are packed in
 // them, the first lowest. A word past the image's end is 0.
+#![tactic(auto)]
+
 ghost use Rattle.std.specs.Prelude.{◌≡◌, ◌+◌, get_or};
 ghost use Rattle.layout.specs.Sizes.{register_words};
 ghost use Rattle.layout.specs.Words.{part, byte_of, bytes4, bytes48};

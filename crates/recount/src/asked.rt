@@ -32,7 +32,7 @@ const ROOM: usize = 112;
 const KINDS_BEFORE: u8 = 5;
 
 // A tree command's request. Bytes past its length do not count.
-#[derive(Drop)]
+#[derive(Clone, Copy)]
 pub(crate) struct TreeRequest {
     pub(crate) bytes: [u8; ROOM],
     pub(crate) length: usize,
@@ -43,7 +43,7 @@ fn put(out: &mut [u8], at: usize, s: &[u8])
     requires { at + length s.now ≤ length out.old }
     ensures { out.new ≡ take at out.old ++ (s.now ++ drop (at + length s.now) out.old) }
 {
-    bytes::copy(s, &mut out[at..]);
+    copying::copy(s, &mut out[at..]);
 }
 
 // Puts the checksum of the bytes behind its field in front.
@@ -52,7 +52,7 @@ fn seal(code: u32, out: &mut [u8])
     ensures { out.new ≡ sealed code (drop 4 out.old) }
 {
     let sum = four(message::checksum(code, &out[4..]));
-    bytes::copy(&sum, out);
+    copying::copy(&sum, out);
 }
 
 pub(crate) fn disable_bytes() -> [u8; BARE_LENGTH]

@@ -2,8 +2,11 @@
 // the journal, piece by piece, and writes what the inspection tells. An input that cannot be read to
 // its end gets a message on standard error and nothing on standard output.
 //
-// What is told is proved to be what `inspection` tells of the pieces fed, from the first on. No
-// contract says what a read gives: that the pieces are standard input's bytes in order is not proved.
+// What is told is proved to be what `inspection` tells of the pieces fed, from the first on. `reading`
+// says of each piece that the reader gave it next; that the pieces together are the input's bytes in
+// order is not proved here.
+#![tactic(auto)]
+
 ghost use Rattle.std.specs.Prelude.{◌≡◌};
 ghost use Rattle.inspection.specs.Stages.{stage_of, told, told_in};
 ghost use Rattle.replay.specs.Fed.{TellsPieces};
@@ -12,8 +15,8 @@ use inspection::feed::feed;
 use inspection::finish::{Told, finish};
 use inspection::reader::{IMAGE_BYTES, JOURNAL_MAX, Reader, begin};
 use layout::IMAGE_WORDS;
-use libc::{STDERR_FILENO, STDIN_FILENO, STDOUT_FILENO};
 use reading::read_whole;
+use std::io::{Read, Write};
 
 // The bytes of a piece; and how many pieces hold all bytes that are used.
 const PIECE: usize = 65536;
@@ -34,9 +37,9 @@ fn ended(whole: bool, reader: Reader, saved: &[u8], scratch: &[u32]) -> Input
     Input { whole, told }
 }
 
-// Feeds standard input. A piece that is not full is the last; behind a refusal, which stays, and behind
+// Feeds the input. A piece that is not full is the last; behind a refusal, which stays, and behind
 // the bytes that are used, nothing is read.
-fn take_input() -> Input
+fn take_input<R: Read>(input: &mut R) -> Input
     ensures { TellsPieces result.told }
 {
     let mut space = [0u8; PIECE];
@@ -44,7 +47,7 @@ fn take_input() -> Input
     let mut scratch = [0u32; IMAGE_WORDS];
     let mut reader = begin();
     for i in 0..PIECES {
-        let read = read_whole(STDIN_FILENO, &mut space);
+        let read = read_whole(input, &mut space);
         let n = read.count;
         let next = feed(reader, &mut saved, &mut scratch, &space[..n]);
         reader = next;
@@ -55,20 +58,25 @@ fn take_input() -> Input
     ended(true, reader, &saved, &scratch)
 }
 
-fn complain(why: &[u8]) {
-    io::write_all(STDERR_FILENO, why);
+// One that cannot be written either is lost.
+fn complain<W: Write>(errors: &mut W, why: &[u8]) {
+    let _ = errors.write_all(why);
 }
 
-fn main() {
-    let input = take_input();
+fn main(rt: HostRuntime) {
+    let mut errors = rt.stderr();
+    let input = take_input(&mut rt.stdin());
     if !input.whole {
-        complain(b"replay: the input cannot be read: no verdict\n");
+        complain(
+            &mut errors,
+            b"replay: the input cannot be read: no verdict\n",
+        );
         return;
     }
     let told = input.told;
     let len = told.len;
     let bytes = told.bytes;
-    if !io::write_all(STDOUT_FILENO, &bytes[..len]) {
-        complain(b"replay: the verdict cannot be written\n");
+    if !rt.stdout().write_all(&bytes[..len]).is_ok() {
+        complain(&mut errors, b"replay: the verdict cannot be written\n");
     }
 }

@@ -1,15 +1,14 @@
 -- Where an entry counts, the request for its work is accepted. Assumes nothing.
 use mathlib.Core.Path.{◌≡◌, refl, sym, ap, ◌∙◌, subst}
-use Prim.Native.Nat.{ℕ, suc, ◌+◌, ◌-◌, ◌*◌, ◌/◌, ◌%◌, ◌^◌, ◌≤◌, ◌<◌}
-use native.Mathlib.Nat.{add-zero}
+use Prim.Native.Nat.{ℕ, ◌+◌, ◌-◌, ◌*◌, ◌%◌, ◌^◌, ◌≤◌, ◌<◌}
 use native.Mathlib.Omega.{arith}
-use mathlib.Core.Bool.{Bool, true, false, cond, not, ◌&&◌}
+use mathlib.Core.Bool.{Bool, true, false, not}
 use mathlib.Core.List.{List, [], ◌∷◌, ◌++◌, append-nil}
-use lib.Dec.{eqb, leb}
-use lib.ListN.{length, get_or, take, drop, length-append}
+use lib.Dec.{eqb}
+use lib.ListN.{length, get_or, take, length-append}
 use lib.Seq.{take-append_seam, get_or-append-add}
 use borrow.Author.Tests.{eq-eqb, le-leb}
-use Rattle.layout.specs.Words.{le32, bytes4, byte_of}
+use Rattle.layout.specs.Words.{le32, bytes4}
 use Rattle.layout.specs.Refusals as number
 use Rattle.layout.proofs.Packing.{joined}
 use Rattle.layout.proofs.Cases.{and_left, and_right}

@@ -1,20 +1,18 @@
 -- What replay accepts, a unit can have counted: the calls that make an entry's work, and the life of a journal. Assumes nothing.
 use mathlib.Core.Path.{◌≡◌, refl, sym, ap, ◌∙◌, subst}
-use Prim.Native.Nat.{ℕ, zero, suc, ◌+◌, ◌-◌, ◌^◌, ◌<◌}
+use Prim.Native.Nat.{ℕ, zero, suc, ◌+◌, ◌-◌, ◌<◌}
 use native.Mathlib.Omega.{arith}
-use mathlib.Core.Bool.{Bool, true, false, not, ◌&&◌, ◌||◌, or-false, or-true, and-false, false≢true}
-use mathlib.Core.List.{List, [], ◌∷◌, ◌++◌, append_assoc, append-nil}
+use mathlib.Core.Bool.{Bool, true, false, not, ◌||◌, or-false, or-true, and-false, false≢true}
+use mathlib.Core.List.{List, [], ◌∷◌, ◌++◌, append_assoc}
 use mathlib.Core.Option.{none, some}
-use lib.Dec.{ltb, eqb}
-use lib.ListN.{length, get_or, replicate, length-append}
+use lib.Dec.{ltb}
+use lib.ListN.{length, replicate}
 use borrow.Author.Tests.{lt-ltb, le-ltb, eq-eqb, ne_eqb}
 use Rattle.layout.specs.Words.{bytes4}
 use Rattle.layout.specs.Below.{all_below}
 use Rattle.layout.specs.Refusals as number
-use Rattle.layout.proofs.Cases.{and_left, and_right}
 use Rattle.table.specs.Table.{number_of}
 use Rattle.journal.specs.Entries.{Entry, cold_boot, update, disabling, stash, extension, derive, extend, rotate, destroy, EntryOk, EntriesOk, entry_bytes, journal_bytes}
-use Rattle.journal.specs.Journal.{ended, count_all}
 use Rattle.journal.specs.Statements.{Bytes}
 use Rattle.journal.proofs.Bytes.{bytes_rest, bytes_front}
 use Rattle.sha384.proofs.Sizes.{bytes_append}
@@ -24,13 +22,13 @@ use Rattle.opening.specs.Tasks.{BootInputs, Task, Ruling, accepted, Request, Vie
 use Rattle.opening.specs.Rules.{inputs_ok, answer_of, stash_code, disable_code, extend_code, invoke_code}
 use Rattle.opening.specs.Recorded.{entry_for, entries_for}
 use Rattle.history.specs.Calls.{Call, request, update_boot, store, power_cut, run}
-use Rattle.history.specs.Ledger.{state_of, any, disables, next_chain, view_of, Job, kind_at, job_at, Ledger, let_go, ledger_request, ledger_boot, ledger_step, first_ledger}
+use Rattle.history.specs.Ledger.{state_of, any, disables, next_chain, view_of, Job, kind_at, job_at, Ledger, let_go, ledger_request, ledger_step, first_ledger}
 use Rattle.history.proofs.Ground.{any_snoc, state_snoc, ruling}
 use Rattle.message.specs.Checksum.{checksum_of}
 use Rattle.journal.specs.Numbers.{number_bytes}
 use Rattle.replaying.specs.Replay.{Replay, fresh, task_of, boot_from, view_at, countable, counted, off_after}
 use Rattle.replaying.specs.Asked.{sealed, stash_asked, extension_asked, disable_asked, invoke_asked, derive_data, extend_data, rotate_data, destroy_data}
-use Rattle.replaying.specs.Lives.{CallOk, CallsOk, Life, LifeOk, LivesOk, history_of, entries_over}
+use Rattle.replaying.specs.Lives.{CallOk, CallsOk, Life, LivesOk, entries_over}
 use Rattle.replaying.proofs.Counts.{CountsTo, entries_snoc}
 use Rattle.replaying.proofs.Data.{OrderAsked, derive_asked, extend_asked, rotate_asked, destroy_asked}
 use Rattle.replaying.proofs.Asked.{stash_accepted, extension_accepted, disable_accepted, invoke_accepted}

@@ -3,11 +3,10 @@ use mathlib.Core.Path.{◌≡◌, refl, sym, ap, ◌∙◌, subst}
 use Prim.Native.Nat.{ℕ, ◌+◌}
 use mathlib.Core.Bool.{Bool, true, false, cond, true≢false}
 use mathlib.Core.List.{List, [], ◌∷◌, ◌++◌, append_assoc, append-nil}
-use mathlib.Core.Option.{Option, none, some}
+use mathlib.Core.Option.{none, some}
 use lib.ListN.{length}
 use Rattle.journal.specs.Entries.{Entry, entry_bytes}
 use Rattle.journal.specs.Journal.{Walked, stopped, ended, on_count, count_all}
-use Rattle.layout.specs.Refusals.{uncounted}
 use Rattle.opening.specs.Tasks.{Task}
 use Rattle.opening.specs.Recorded.{entry_for, entries_for}
 use Rattle.replaying.specs.Replay.{Replay, countable, counted, count}

@@ -1,12 +1,12 @@
 -- The entries of a history can be written: numbers of 32 bits, digests of 48 bytes and handles of 20. Assumes nothing.
-use mathlib.Core.Path.{◌≡◌, refl, sym, ap, ◌∙◌}
-use Prim.Native.Nat.{ℕ, suc, ◌+◌, ◌*◌, ◌^◌, ◌≤◌, ◌<◌}
+use mathlib.Core.Path.{◌≡◌, refl}
+use Prim.Native.Nat.{ℕ, suc, ◌+◌, ◌^◌, ◌≤◌, ◌<◌}
 use native.Mathlib.Omega.{arith}
 use mathlib.Core.Bool.{Bool, true, false, cond, not, ◌&&◌}
 use mathlib.Core.List.{List, [], ◌∷◌, ◌++◌}
 use mathlib.Core.Option.{Option, none, some}
 use lib.Dec.{eqb}
-use lib.ListN.{length, get_or, take, drop, length-drop, take-append-drop}
+use lib.ListN.{length, take, drop, length-drop, take-append-drop}
 use lib.Seq.{length-take-le}
 use borrow.Author.Tests.{eqb-true}
 use Rattle.layout.specs.Words.{le32}
@@ -20,7 +20,7 @@ use Rattle.journal.proofs.Says.{Says}
 use Rattle.journal.proofs.Fields.{FieldsAre, fields_say}
 use Rattle.tree.specs.Tree.{Tree}
 use Rattle.opening.specs.Orders.{NodeCommand, derive, extend, rotate, destroy, malformed, whole, command_in, traits_of, fresh_for, unfit}
-use Rattle.opening.specs.Tasks.{BootInputs, Request, Task, no_stores, Ruling, refused, accepted, View}
+use Rattle.opening.specs.Tasks.{BootInputs, Request, Ruling, refused, accepted, View}
 use Rattle.opening.specs.Rules.{Command, stash_measurement, disable_attestation, identity_key, verify_signature, extend_register, invoke_dpe, unknown_command, command_of, stash_code, disable_code, identity_code, verify_code, extend_code, invoke_code, served, request_rules, inputs_ok, boot_rules, boot_ruling, update_task}
 use Rattle.opening.specs.Recorded.{entry_ordered, entry_for, entries_for}
 use Rattle.opening.proofs.Decided.{NoneApply, decided, ruled_decided, negated}

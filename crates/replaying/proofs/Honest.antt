@@ -2,7 +2,7 @@
 use mathlib.Core.Path.{◌≡◌, refl, sym, ap, ◌∙◌, subst}
 use Prim.Native.Nat.{ℕ, suc, ◌<◌}
 use native.Mathlib.Omega.{arith}
-use mathlib.Core.Bool.{Bool, true, false, cond, not, ◌&&◌, ◌||◌, or-false, or-true, true≢false}
+use mathlib.Core.Bool.{Bool, true, false, cond, not, ◌||◌, or-false, or-true, true≢false}
 use mathlib.Core.List.{List, [], ◌∷◌, ◌++◌}
 use mathlib.Core.Option.{Option, none, some}
 use lib.Dec.{eqb}
@@ -13,12 +13,11 @@ use Rattle.journal.specs.Entries as entry
 use Rattle.opening.specs.Orders.{NodeCommand, derive, extend, rotate, destroy, malformed, command_in, fresh_for}
 use Rattle.opening.specs.Tasks.{BootInputs, Measurement, RegisterExtension, Order, Request, Task, no_stores, kept_boot, disable_command, disabling_boot, stash, update, cold_boot, extension, invoke, Ruling, refused, accepted, View}
 use Rattle.opening.specs.Rules.{Rule, Command, stash_measurement, disable_attestation, identity_key, verify_signature, extend_register, invoke_dpe, unknown_command, command_of, stash_code, disable_code, identity_code, verify_code, extend_code, invoke_code, measurement_in, extension_in, stash_rules, extend_rules, invoke_rules, served, request_rules, boot_rules, boot_ruling, update_task}
-use Rattle.opening.specs.Works.{facts_of}
 use Rattle.opening.specs.Recorded.{entry_ordered, entry_for, entries_for}
 use Rattle.opening.proofs.Decided.{NoneApply, decided, ruled_decided, negated}
 use Rattle.history.specs.Calls.{Call, request, update_boot, store, answer, power_cut, Step, run}
 use Rattle.history.specs.Calls as call
-use Rattle.history.specs.Ledger.{Contents, Chain, tree_at, next_chain, blank, next, state_of, any, disables, is_off, view_of, Job, Ledger, let_go, ledger_request, ledger_boot, update_ruling, ledger_store, ledger_step, first_ledger}
+use Rattle.history.specs.Ledger.{Contents, Chain, tree_at, next_chain, blank, state_of, any, disables, is_off, view_of, Job, Ledger, let_go, ledger_request, ledger_boot, update_ruling, ledger_store, ledger_step, first_ledger}
 use Rattle.history.proofs.Ground.{any_snoc, state_snoc, ruling}
 use Rattle.replaying.specs.Replay.{Replay, task_of, view_at, passes, ordered, countable, off_after, counted, boot_from}
 use Rattle.replaying.specs.Lives.{Alike}

@@ -1,10 +1,10 @@
 -- The verdict on a unit's own image and journal. Assumes nothing.
-use mathlib.Core.Path.{◌≡◌, refl, sym, ap, ap₂, ◌∙◌}
-use Prim.Native.Nat.{ℕ, ◌+◌, ◌-◌, ◌*◌, ◌≤◌, ◌<◌}
+use mathlib.Core.Path.{◌≡◌, sym, ap, ap₂, ◌∙◌}
+use Prim.Native.Nat.{ℕ, ◌+◌, ◌-◌, ◌*◌}
 use native.Mathlib.Omega.{arith}
-use mathlib.Core.Bool.{Bool, true, false, cond}
+use mathlib.Core.Bool.{true, cond}
 use mathlib.Core.List.{List, [], ◌∷◌, ◌++◌}
-use lib.Dec.{eqb, ltb}
+use lib.Dec.{eqb}
 use lib.ListN.{length, get_or, take, drop, take-append-drop}
 use lib.Seq.{get_or-drop, drop-drop, take_all}
 use borrow.Author.Tests.{eq-eqb, le-ltb}
@@ -12,11 +12,11 @@ use Rattle.layout.specs.Sizes.{image_words, registers_at, nodes_at, register_cou
 use Rattle.layout.specs.Words.{bytes4, bytes8, words_at}
 use Rattle.layout.proofs.Bounded.{all_below_law}
 use Rattle.journal.specs.Entries.{journal_bytes}
-use Rattle.journal.specs.Journal.{Walked, ended}
+use Rattle.journal.specs.Journal.{ended}
 use Rattle.opening.specs.Tasks.{Task}
 use Rattle.opening.specs.Recorded.{entries_for}
-use Rattle.history.specs.Calls.{Call, step, run}
-use Rattle.history.specs.Ledger.{Chain, register_rows, node_rows, state_of, chain_of, any, disables, ledger_step, first_ledger}
+use Rattle.history.specs.Calls.{step, run}
+use Rattle.history.specs.Ledger.{Chain, register_rows, node_rows, state_of, any, disables, ledger_step, first_ledger}
 use Rattle.history.specs.Demand.{AsCounted, after_cold_boot}
 use Rattle.history.proofs.Demand.{demand3}
 use Rattle.replaying.specs.Replay.{Replay, replay}

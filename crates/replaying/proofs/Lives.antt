@@ -1,15 +1,13 @@
 -- The journal of any lives is accepted and gives the last one's registers and chain; and nothing else is accepted. Assumes nothing.
 use mathlib.Core.Path.{◌≡◌, refl, sym, ap, ◌∙◌, subst}
-use mathlib.Core.Logic.{◌↔◌}
-use Prim.Native.Nat.{ℕ}
-use mathlib.Core.List.{List, [], ◌∷◌, ◌++◌, append-nil}
+use mathlib.Core.List.{List, [], ◌∷◌, ◌++◌}
 use Rattle.journal.specs.Entries.{Entry, EntriesOk, journal_bytes}
-use Rattle.journal.specs.Journal.{ended, count_all}
+use Rattle.journal.specs.Journal.{ended}
 use Rattle.journal.specs.Statements.{Bytes}
 use Rattle.journal.proofs.Journal.{walk_journal}
 use Rattle.opening.specs.Recorded.{entries_for}
 use Rattle.replaying.specs.Replay.{Replay, fresh, count, replay}
-use Rattle.replaying.specs.Lives.{Life, LifeOk, LivesOk, history_of, entries_over, Alike, Replays, Accepts}
+use Rattle.replaying.specs.Lives.{Life, LivesOk, history_of, entries_over, Replays, Accepts}
 use Rattle.replaying.proofs.Counts.{CountsTo, counts_append, counts_ended, ended_counts}
 use Rattle.replaying.proofs.Honest.{history_counts}
 use Rattle.replaying.proofs.Fits.{ok_append, history_fits}

@@ -1,11 +1,11 @@
 -- Verdict 3 is given only to the image and the journal of what a unit can have done. Assumes nothing.
-use mathlib.Core.Path.{◌≡◌, refl, sym, ap, ◌∙◌, subst}
+use mathlib.Core.Path.{◌≡◌, refl, sym, ap, ◌∙◌}
 use Prim.Native.Nat.{ℕ, ◌+◌, ◌-◌, ◌≤◌, ◌<◌}
 use native.Mathlib.Omega.{arith}
 use native.Mathlib.Decide.{dec_lt}
-use mathlib.Core.Bool.{Bool, true, false, cond, true≢false, false≢true}
+use mathlib.Core.Bool.{Bool, true, false, cond, false≢true}
 use mathlib.Core.List.{List, [], ◌∷◌, ◌++◌, append_assoc, append-nil}
-use lib.Dec.{eqb, ltb}
+use lib.Dec.{eqb}
 use lib.ListN.{length, get_or, take, drop, take-append-drop}
 use borrow.Author.Tests.{eqb-true, lt-ltb, le-ltb}
 use Rattle.layout.specs.Sizes.{image_words}
@@ -16,10 +16,10 @@ use Rattle.journal.specs.Journal.{Walked, stopped, ended, walk, walk_for}
 use Rattle.journal.specs.Statements.{Bytes}
 use Rattle.journal.proofs.Bytes.{bytes_rest, bytes_front}
 use Rattle.opening.specs.Recorded.{entries_for}
-use Rattle.history.specs.Ledger.{Chain, state_of, any, disables}
+use Rattle.history.specs.Ledger.{Chain, state_of}
 use Rattle.replaying.specs.Replay.{Replay, fresh, replay}
 use Rattle.replaying.specs.Report.{compared_at, compared_rows, alike, registers_told, verdict, report, image_bytes, journal_max, output}
-use Rattle.replaying.specs.Lives.{Life, LifeOk, LivesOk, history_of, entries_over, Alike}
+use Rattle.replaying.specs.Lives.{Life, LifeOk, LivesOk, history_of, entries_over}
 use Rattle.replaying.specs.Unit.{Vouched, Vouches}
 use Rattle.replaying.proofs.Lives.{replays, accepts}
 

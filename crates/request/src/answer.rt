@@ -19,7 +19,7 @@ fn put_checksum(out: &mut [u8], end: usize)
     ensures { out.new ≡ bytes4 (checksum_of 0 (take (end - 4) (drop 4 out.old))) ++ drop 4 out.old }
 {
     let sum = four(message::checksum(0, &out[4..end]));
-    bytes::copy(&sum, out);
+    copying::copy(&sum, out);
 }
 
 fn sealed(rest: &[u8]) -> Answer
@@ -28,7 +28,7 @@ fn sealed(rest: &[u8]) -> Answer
 {
     let end = rest.len() + 8;
     let mut out = [0u8; ANSWER_MAX];
-    bytes::copy(rest, &mut out[8..]);
+    copying::copy(rest, &mut out[8..]);
     put_checksum(&mut out, end);
     Answer {
         bytes: out,

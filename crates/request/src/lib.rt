@@ -1,4 +1,6 @@
 // Opening a request (document 01, "Mailbox"): a module for each command.
+#![tactic(auto)]
+
 mod answer;
 mod disable;
 mod extend;

@@ -19,7 +19,7 @@ use Rattle.opening.specs.Openings.{status_number}
 use Rattle.opening.specs.declared.Status.{Status}
 use Rattle.opening.specs.declared.Status.TheVariants as status
 use Rattle.respond.specs.declared.Response.{Response}
-use Rattle.respond.specs.Program.{response_max, response_of, answer_bytes, written}
+use Rattle.respond.specs.Program.{response_max, response_of, answer_bytes}
 use Rattle.making.proofs.After.{SameAnswer}
 
 abbrev zs : ℕ → List ℕ

@@ -19,7 +19,8 @@ use Rattle.opening.specs.Tasks.{Request, Task, no_stores, Ruling, refused, accep
 use Rattle.opening.specs.Rules.{command_of, answer_of, declined, served, ruled, request_rules}
 use Rattle.opening.specs.Works.{facts_of, work_at}
 use Rattle.opening.proofs.Decided.{NoneApply, ruled_decided}
-use Rattle.command_laws.proofs.ByCommand.{declined_short, command_law}
+use Rattle.command_laws.proofs.ByCommand.{declined_short}
+use Rattle.command_laws.proofs.ByCode.{command_law}
 use Rattle.opening.specs.Openings.{opened_of, size_rule, view_in, open_request}
 use Rattle.opening.specs.declared.Status.TheVariants as status
 use Rattle.opening.specs.declared.Opened.{Opened}

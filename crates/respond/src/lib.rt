@@ -1,4 +1,6 @@
 // The small program of document 01 as a function: from the bytes that it reads to those it writes.
+#![tactic(auto)]
+
 mod run;
 
 ghost use Rattle.std.specs.Prelude.{◌≡◌, true, ◌++◌, ◌+◌, ◌≤◌, drop};
@@ -26,7 +28,7 @@ const RESULT_LEN: usize = 4;
 pub const RESPONSE_MAX: usize = RESULT_LEN + ANSWER_MAX;
 
 // What the program writes: the first `len` bytes; the others are zero.
-#[derive(Drop)]
+#[derive(Clone, Copy)]
 pub struct Response {
     pub len: usize,
     pub bytes: [u8; RESPONSE_MAX],
@@ -39,7 +41,7 @@ fn with_result(number: u32, n: usize, space: [u8; RESPONSE_MAX]) -> Response
 {
     let result = four(number);
     let mut out = space;
-    bytes::copy(&result, &mut out);
+    copying::copy(&result, &mut out);
     Response {
         len: RESULT_LEN + n,
         bytes: out,

@@ -1,4 +1,6 @@
 // A running digest: SHA-384 of bytes that come in slices. A state goes in by value and comes back.
+#![tactic(auto)]
+
 ghost use Rattle.std.specs.Prelude.{◌≡◌, ◌+◌, ◌≤◌, ◌<◌, length};
 ghost use Rattle.running.specs.Running.{longest_total, begun, agree, feed_number, feed_result, fed_of, finish_result};
 
@@ -11,7 +13,7 @@ pub const LONGEST_TOTAL: u64 = 0xFFFFFFFF;
 
 // `total` counts the bytes taken, `waiting` those past the last whole block, which are the first of
 // `buffer`; `hash` is the hash value after the whole blocks.
-#[derive(Drop)]
+#[derive(Clone, Copy)]
 pub struct Running {
     pub total: u64,
     pub waiting: u64,
@@ -20,7 +22,7 @@ pub struct Running {
 }
 
 // What a feed answers: its number, and the state, as it was where the feed is refused.
-#[derive(Drop)]
+#[derive(Clone, Copy)]
 pub struct Fed {
     pub number: u32,
     pub state: Running,
@@ -57,8 +59,8 @@ impl Running {
         let old = self.buffer;
         let hash = self.hash;
         let mut buffer = [0u8; 128];
-        bytes::copy(&old[..w], &mut buffer);
-        bytes::copy(slice, &mut buffer[w..]);
+        copying::copy(&old[..w], &mut buffer);
+        copying::copy(slice, &mut buffer[w..]);
         Running {
             total: self.total + (n as u64),
             waiting: (w + n) as u64,
@@ -77,7 +79,7 @@ impl Running {
         let n = slice.len();
         let fill = 128 - w;
         let mut block = self.buffer;
-        bytes::copy(&slice[..fill], &mut block[w..]);
+        copying::copy(&slice[..fill], &mut block[w..]);
         let k = K;
         let mut hash = self.hash;
         absorb(&k, &mut hash, &block);
@@ -86,7 +88,7 @@ impl Running {
         let left = (n - fill) % 128;
         let from = n - left;
         let mut buffer = [0u8; 128];
-        bytes::copy(&slice[from..], &mut buffer);
+        copying::copy(&slice[from..], &mut buffer);
         Running {
             total,
             waiting: left as u64,

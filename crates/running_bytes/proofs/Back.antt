@@ -1,10 +1,10 @@
 -- A state's bytes give the state back. Assumes nothing.
 use mathlib.Core.Path.{◌≡◌, refl, sym, ap, ap₂, ◌∙◌}
-use mathlib.Core.List.{List, [], ◌∷◌, ◌++◌, append_assoc}
-use Prim.Native.Nat.{ℕ, zero, suc, ◌+◌, ◌-◌, ◌*◌, ◌/◌, ◌%◌, ◌^◌, ◌<◌}
+use mathlib.Core.List.{List, ◌∷◌, ◌++◌, append_assoc}
+use Prim.Native.Nat.{ℕ, suc, ◌+◌, ◌-◌, ◌*◌, ◌/◌, ◌%◌, ◌^◌, ◌<◌}
 use native.Mathlib.Omega.{arith}
 use lib.ListN.{length, take, drop, get_or, length-append}
-use lib.Seq.{take_at, drop_at, length-take-le, get_or-append-add, drop-cons, split_at}
+use lib.Seq.{take_at, length-take-le, get_or-append-add, split_at}
 use Rattle.layout.specs.Words.{le32, le64, byte_of, bytes8}
 use Rattle.layout.proofs.Packing.{same, joined}
 use Rattle.layout.proofs.Tab.{tab_is}

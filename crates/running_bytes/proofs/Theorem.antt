@@ -2,14 +2,12 @@
 use mathlib.Core.Path.{◌≡◌, refl, sym, ap, ap₂, ◌∙◌}
 use mathlib.Core.Bool.{Bool, true, false, cond}
 use mathlib.Core.List.{List, [], ◌∷◌, ◌++◌, append-nil}
-use Prim.Native.Nat.{ℕ, zero, suc, ◌+◌, ◌*◌, ◌/◌, ◌%◌, ◌^◌, ◌≤◌, ◌<◌}
+use Prim.Native.Nat.{ℕ, ◌≤◌}
 use native.Mathlib.Omega.{arith}
 use borrow.Author.Tests.{eq-eqb, le-ltb}
 use lib.Dec.{eqb}
-use lib.ListN.{length, drop, get_or, length-append, length-replicate, length-drop, drop_of_length-le}
-use Rattle.sha384.specs.Constants.{constants, initial_of}
-use Rattle.sha384.specs.declared.digest.DigestResult.{DigestResult}
-use Rattle.running.specs.Running.{longest_total, filled, begun, feed_number, feed_result, finish_result}
+use lib.ListN.{length, drop_of_length-le}
+use Rattle.running.specs.Running.{longest_total, feed_result, finish_result}
 use Rattle.running.specs.Steps.{Step, feed, finish, Result, fed, finished, results, done_after, told}
 use Rattle.running.specs.declared.Running.{Running}
 use Rattle.running.specs.declared.Fed.{Fed}

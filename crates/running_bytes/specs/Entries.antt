@@ -1,5 +1,5 @@
 -- What the running digest's entries over lent bytes answer, for any bytes. Assumes nothing.
-use Rattle.std.specs.Prelude.{ℕ, cond, not, List, ◌++◌, eqb, ltb, length, drop}
+use Rattle.std.specs.Prelude.{ℕ, cond, List, ◌++◌, eqb, ltb, length, drop}
 use Rattle.running.specs.Running.{begun, feed_result, finish_result}
 use Rattle.running_bytes.specs.Coding.{state_size, state_bytes, state_at}
 

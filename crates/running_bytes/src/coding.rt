@@ -40,7 +40,7 @@ pub(crate) fn state_of(state: &[u8]) -> Running
     ensures { result ≡ state_at state.now }
 {
     let mut buffer = [0u8; 128];
-    bytes::copy(&state[BUFFER_IN..HASH_IN], &mut buffer);
+    copying::copy(&state[BUFFER_IN..HASH_IN], &mut buffer);
     let hash = hash_in(state);
     Running {
         total: read64(state, TOTAL_IN),
@@ -85,7 +85,7 @@ pub(crate) fn put_state(state: Running, out: &mut [u8])
     put64(out, TOTAL_IN, state.total);
     put64(out, WAITING_IN, state.waiting);
     let buffer = state.buffer;
-    bytes::copy(&buffer, &mut out[BUFFER_IN..HASH_IN]);
+    copying::copy(&buffer, &mut out[BUFFER_IN..HASH_IN]);
     let hash = state.hash;
     put_hash(out, hash);
 }

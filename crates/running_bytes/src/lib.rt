@@ -1,5 +1,7 @@
 // The running digest over a state that the caller holds as bytes: begin, feed and finish on a lent
 // buffer. Any bytes are a state.
+#![tactic(auto)]
+
 ghost use Rattle.std.specs.Prelude.{◌≡◌, length};
 ghost use Rattle.running_bytes.specs.Entries.{begin_number_in, begin_bytes, feed_number_in, feed_bytes, finish_number_in, finish_buffer};
 
@@ -59,6 +61,6 @@ pub fn finish(state: &[u8], buffer: &mut [u8]) -> u32
         return 8;
     }
     let digest = done.bytes;
-    bytes::copy(&digest, buffer);
+    copying::copy(&digest, buffer);
     0
 }

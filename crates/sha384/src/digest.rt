@@ -12,7 +12,7 @@ use sha_block::blocks::absorb;
 pub const LONGEST: usize = 65535;
 
 // A digest with number 0; or 48 zero bytes with the number of the refusal.
-#[derive(Drop)]
+#[derive(Clone, Copy)]
 pub struct DigestResult {
     pub number: u32,
     pub bytes: [u8; 48],
@@ -78,8 +78,8 @@ fn joined(x: [u8; 48], d: [u8; 48]) -> [u8; 96]
     ensures { result ≡ x ++ d }
 {
     let mut out = [0u8; 96];
-    bytes::copy(&x, &mut out);
-    bytes::copy(&d, &mut out[48..]);
+    copying::copy(&x, &mut out);
+    copying::copy(&d, &mut out[48..]);
     out
 }
 

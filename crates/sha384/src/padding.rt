@@ -30,7 +30,7 @@ pub(crate) fn conclude(k: &[u64; 80], h: &mut [u64; 8], last: &[u8], total: u64)
     let n = last.len();
     let bits = total * 8;
     let mut block = [0u8; 128];
-    bytes::copy(last, &mut block);
+    copying::copy(last, &mut block);
     block[n] = 128;
     if n < 112 {
         put_word(&mut block, 120, bits);

@@ -1,5 +1,5 @@
 -- Two ways to combine three words bit by bit are one if they agree on single bits. Assumes nothing.
-use Rattle.std.proofs.Common.{◌≡◌, ℕ, zero, suc, ◌+◌, ◌*◌, ◌/◌, ◌%◌, ◌^◌, ◌<◌, sym, refl, ap, ◌∙◌, ap₂, pow-suc, arith}
+use Rattle.std.proofs.Common.{◌≡◌, ℕ, zero, suc, ◌*◌, ◌/◌, ◌%◌, ◌^◌, ◌<◌, sym, refl, ap, ◌∙◌, ap₂, pow-suc, arith}
 use lib.Bits.{bit_and, bit_xor, and_shr, xor_shr, and_mod, xor_mod}
 
 -- a fact of three bits is eight facts

@@ -1,5 +1,5 @@
 -- The words of a block, and the rounds that take them up one by one. Assumes nothing.
-use Rattle.std.proofs.Common.{◌≡◌, ℕ, zero, suc, ◌+◌, ◌*◌, ◌<◌, Bool, true, false, eqb, List, [], ◌∷◌, ◌++◌, length, get_or, take, set, sym, refl, ap, ◌∙◌, ap₂, arith, length-append, length-set, take_all, take-suc-set, eqb-true}
+use Rattle.std.proofs.Common.{◌≡◌, ℕ, zero, suc, ◌+◌, ◌*◌, ◌<◌, Bool, true, false, eqb, List, [], ◌∷◌, ◌++◌, length, get_or, take, set, sym, refl, ap, ◌∙◌, arith, length-append, length-set, take_all, take-suc-set, eqb-true}
 use borrow.Author.Tests.{eqb-false}
 use lib.ListN.{get_or-append}
 use lib.Seq.{get_or-append_seam}

@@ -1,5 +1,5 @@
 -- A rotation of a rotation, and of a sum without carries. Assumes nothing.
-use Rattle.std.proofs.Common.{◌≡◌, ℕ, ◌+◌, ◌-◌, ◌*◌, ◌/◌, ◌%◌, ◌^◌, ◌<◌, sym, refl, ap, ◌∙◌, ap₂, mod-lt, mul_assoc, add-mul, arith, pow_pos, pow-add, shr-shr, shr_lt}
+use Rattle.std.proofs.Common.{◌≡◌, ℕ, ◌+◌, ◌*◌, ◌/◌, ◌%◌, ◌^◌, ◌<◌, sym, ap, ◌∙◌, ap₂, mod-lt, mul_assoc, add-mul, arith, pow_pos, pow-add, shr-shr, shr_lt}
 use lib.Arith.{digits_lt}
 use lib.Pow.{shl-shr, low, high, split, mod-pow-add}
 use lib.Bits.{bit_or, bit_xor, or_shifted_r, xor_block, xor_shr, xor_mod, xor_lt}

@@ -3,7 +3,7 @@ ghost use Rattle.std.specs.Prelude.{◌≡◌};
 ghost use Rattle.sha_block.specs.Blocks.{hash_words, hash_value};
 
 // The working variables, eight words of 64 bits, a to h.
-#[derive(Drop)]
+#[derive(Clone, Copy)]
 pub struct State {
     pub a: u64,
     pub b: u64,

@@ -23,7 +23,7 @@ pub fn joined(first: [u8; 48], second: [u8; 48]) -> [u8; INPUT_BYTES]
     ensures { result ≡ first ++ second }
 {
     let mut out = [0u8; INPUT_BYTES];
-    bytes::copy(&first, &mut out);
-    bytes::copy(&second, &mut out[48..]);
+    copying::copy(&first, &mut out);
+    copying::copy(&second, &mut out[48..]);
     out
 }

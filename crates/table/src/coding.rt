@@ -8,13 +8,14 @@ use crate::{Kind, StashAt};
 const KINDS: u32 = 11;
 
 // A kind's number and its two indices; one that it does not have is 0.
-#[derive(Drop)]
+#[derive(Clone, Copy)]
 pub struct Coded {
     pub number: u32,
     pub first: usize,
     pub second: usize,
 }
 
+#[tactic(auto, unfolding(crate::specs::Coding::coded_of))]
 pub fn encode(kind: Kind) -> Coded
     ensures { result ≡ coded_of kind }
 {
@@ -78,12 +79,14 @@ pub fn encode(kind: Kind) -> Coded
 }
 
 // Whether a number is a kind's.
+#[tactic(auto, unfolding(crate::specs::Coding::is_kind))]
 pub fn is_kind(number: u32) -> bool
     ensures { result ≡ is_kind number }
 {
     number < KINDS
 }
 
+#[tactic(auto, unfolding(crate::specs::Coding::kind_of))]
 pub fn decode(coded: Coded) -> Kind
     ensures { result ≡ kind_of coded }
 {

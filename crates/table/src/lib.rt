@@ -1,5 +1,7 @@
 // The store table (document 01, "Work, one word at a time"): the kinds of work, how many stores each has,
 // and the word and the value of each store.
+#![tactic(auto)]
+
 pub mod coding;
 mod puts;
 
@@ -18,7 +20,7 @@ use layout::{CURRENT_AT, HANDLE_AT, HANDLE_WORDS, NODE_WORDS, NODES};
 use packing::word;
 
 // Where a stash stores: the new node, and the node that held the default handle.
-#[derive(Drop)]
+#[derive(Clone, Copy)]
 pub struct StashAt {
     pub node: usize,
     pub holder: usize,
@@ -27,7 +29,7 @@ pub struct StashAt {
 // An update carries its root's index: a well-formed image's root may be any node. An extension carries its
 // register. Of a tree command: a derived child's node, and where its parent is retired that too (`Replace`);
 // the node of an extend or a rotate; how many nodes a destroy frees, whose indices are the work's node words.
-#[derive(Drop)]
+#[derive(Clone, Copy)]
 pub enum Kind {
     Nothing,
     Disabling,
@@ -43,13 +45,14 @@ pub enum Kind {
 }
 
 // One store: a word and its value.
-#[derive(Drop)]
+#[derive(Clone, Copy)]
 pub struct Put {
     pub address: usize,
     pub value: u32,
 }
 
 // The number of stores of a kind of work.
+#[tactic(auto, unfolding(crate::specs::Table::number_of))]
 pub fn number(kind: Kind) -> usize
     ensures { result ≡ number_of kind }
 {
@@ -82,6 +85,7 @@ fn nodes_first(words: &[u32], count: usize) -> bool
 
 // Whether no index of a kind is beyond the nodes, those that a destroy has in its node words included, and
 // no register outside those that may be extended.
+#[tactic(auto, unfolding(crate::specs::Table::index_ok))]
 pub fn index_ok(kind: Kind, node: &[u32]) -> bool
     ensures { result ≡ index_ok kind node.now }
 {

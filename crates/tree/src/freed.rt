@@ -66,7 +66,7 @@ fn goes_too(image: &[u32], b: usize, p: usize) -> bool
 
 // The freed nodes' indices, upwards, with zeros behind them, and how many they are. There is room: a node
 // has more words than there are nodes.
-#[derive(Drop)]
+#[derive(Clone, Copy)]
 pub struct Freed {
     pub count: usize,
     pub nodes: [u32; NODE_WORDS],

@@ -8,6 +8,7 @@ use sha384::digest::{LONGEST, digest};
 // SHA-384 of the message into the first 48 bytes of the buffer: 0. Refused, with nothing written:
 // 10, a message longer than 65,535 bytes; then 8, a buffer shorter than 48.
 #[unsafe(no_mangle)]
+#[tactic(auto, unfolding(crate::specs::Digest::digest_number, crate::specs::Digest::digest_buffer))]
 pub extern "C" fn waggleloft_sha384(message: &[u8], buffer: &mut [u8]) -> u32
     ensures value { result ≡ digest_number message.now (length buffer.old) }
     ensures buffer_after { buffer.new ≡ digest_buffer message.now buffer.old }
@@ -20,7 +21,7 @@ pub extern "C" fn waggleloft_sha384(message: &[u8], buffer: &mut [u8]) -> u32
     }
     let d = digest(message);
     let bytes = d.bytes;
-    bytes::copy(&bytes, buffer);
+    copying::copy(&bytes, buffer);
     0
 }
 

@@ -1,5 +1,7 @@
 // A piece of work: what it will store, how far it is, its prepared answer, and the inputs that its
 // journal entry tells.
+#![tactic(auto)]
+
 pub mod entry;
 pub mod lent;
 
@@ -17,7 +19,7 @@ use table::Kind;
 // indices there, and every tree command its caller in the locality's word. `position` counts the stores made.
 // `inputs` are a boot's two digests, or the one digest and zeros; a tree command has its handle and its fresh
 // one behind the first digest.
-#[derive(Drop)]
+#[derive(Clone, Copy)]
 pub struct Work {
     pub kind: Kind,
     pub position: usize,
@@ -31,14 +33,14 @@ pub struct Work {
 }
 
 // What a store answers: its number, and the work one store on, or as it was where it is refused.
-#[derive(Drop)]
+#[derive(Clone, Copy)]
 pub struct Stored {
     pub number: u32,
     pub work: Work,
 }
 
 // What an answer's taking answers: its number, and how many bytes were written.
-#[derive(Drop)]
+#[derive(Clone, Copy)]
 pub struct Answered {
     pub number: u32,
     pub written: usize,
@@ -128,7 +130,7 @@ impl Work {
             };
         }
         let bytes = self.answer;
-        bytes::copy(&bytes[..n], buffer);
+        copying::copy(&bytes[..n], buffer);
         Answered {
             number: 0,
             written: n,

@@ -1,32 +1,34 @@
 // Runs what no script of the driver can: stores on images of a wrong length, which the store entry
 // refuses with 1 whatever the work is: ready, finished or damaged.
+#![tactic(auto)]
+
 use boot::cold::open_cold_boot;
 use layout::IMAGE_WORDS;
-use libc::{STDERR_FILENO, STDOUT_FILENO};
 use opening::BootStatus;
+use std::io::Write;
 use work::Work;
 
 // One word more than an image has.
 const LONGEST: usize = IMAGE_WORDS + 1;
 
-// Prints the number of a store on an image of that many words, at most the longest.
-fn print_store(work: Work, words: usize) {
+// Prints the number of a store on an image of that many words, at most the longest. One that cannot be
+// written is lost.
+fn print_store<W: Write>(out: &mut W, work: Work, words: usize) {
     let mut space = [0u32; LONGEST];
     if words <= LONGEST {
         let stored = work.store(&mut space[..words]);
-        io::print_decimal(STDOUT_FILENO, stored.number as u64);
-        io::write_all(STDOUT_FILENO, b"\n");
+        let _ = writeln!(out, "{}", stored.number);
     }
 }
 
-fn print_stores(work: Work) {
-    print_store(work, 0);
-    print_store(work, IMAGE_WORDS - 1);
-    print_store(work, IMAGE_WORDS);
-    print_store(work, LONGEST);
+fn print_stores<W: Write>(out: &mut W, work: Work) {
+    print_store(out, work, 0);
+    print_store(out, work, IMAGE_WORDS - 1);
+    print_store(out, work, IMAGE_WORDS);
+    print_store(out, work, LONGEST);
 }
 
-fn main() {
+fn main(rt: HostRuntime) {
     let image = [0u32; IMAGE_WORDS];
     let runtime = [0x11u8; 48];
     let manifest = [0x33u8; 48];
@@ -34,7 +36,9 @@ fn main() {
     let booted = open_cold_boot(&image, &runtime, &manifest, &secret);
     let status = booted.status;
     let BootStatus::Ready(_) = status else {
-        io::write_all(STDERR_FILENO, b"wrong_image: the cold boot is refused\n");
+        let _ = rt
+            .stderr()
+            .write_all(b"wrong_image: the cold boot is refused\n");
         return;
     };
     let ready = booted.work;
@@ -42,7 +46,8 @@ fn main() {
     finished.position = ready.left();
     let mut damaged = ready;
     damaged.position = 0xFFFFFFFFFFFFFFFF;
-    print_stores(ready);
-    print_stores(finished);
-    print_stores(damaged);
+    let mut out = rt.stdout();
+    print_stores(&mut out, ready);
+    print_stores(&mut out, finished);
+    print_stores(&mut out, damaged);
 }

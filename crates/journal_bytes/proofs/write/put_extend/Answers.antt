@@ -1,0 +1,41 @@
+-- The kind and the three fields.
+use native.Mathlib.Omega.{arith}
+use mathlib.Core.Path.{sym, ◌∙◌}
+use lib.ListN.{length-set}
+use Rattle.journal.specs.Numbers.{number_bytes}
+use Rattle.journal.proofs.Entries.{laid}
+use Rattle.journal_bytes.specs.Results.{handle_part}
+use Rattle.journal_bytes.proofs.Writing.{one_byte, joins}
+use Rattle.journal_bytes.proofs.write.put_extend.Goals as goal
+
+pub put_handle-a-requires : goal.put_handle-a-requires
+put_handle-a-requires c = record { at_in_bounds = simp length-set (omega arith); from_bound = omega arith }
+
+pub put_digest-b-requires : goal.put_digest-b-requires
+put_digest-b-requires c = let g = c in
+    let h = c.put_handle-a in
+    omega (arith, h.auto.out, h.ensures.value, length-set g.args.out.now 0 7)
+
+pub put_number-requires : goal.put_number-requires
+put_number-requires c = let g = c in
+    let h = c.put_handle-a in
+    let d = c.put_digest-b in
+    omega (arith, d.auto.out, d.ensures.value, h.auto.out, h.ensures.value, length-set g.args.out.now 0 7)
+
+pub shape_of-out : goal.shape_of-out
+shape_of-out c = let g = c in
+    c.put_number.auto.out
+    ∙ c.put_digest-b.auto.out
+    ∙ c.put_handle-a.auto.out
+    ∙ length-set g.args.out.now 0 7
+
+pub returns : goal.returns
+returns c = let g = c in
+    let a = g.args in
+    let h = c.put_handle-a in
+    let d = c.put_digest-b in
+    let k = c.put_number in record {
+      out_after = joins (number_bytes a.caller) k.ensures.out_after (joins a.first d.ensures.out_after (joins (handle_part a.second) h.ensures.out_after (one_byte a.out.now 7 (omega arith))))
+          ∙ sym (laid.extend (handle_part a.second) a.first a.caller);
+      upper_bound = omega (arith, k.ensures.upper_bound, d.ensures.value, h.ensures.value);
+    }

@@ -1,0 +1,2 @@
+-- Laws of a response and of the input that is used.
+pub mod Responses

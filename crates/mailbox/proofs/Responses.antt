@@ -1,0 +1,20 @@
+-- The bytes of a response that count are the program's output, and an input's front that is used has the whole's. Assumes nothing.
+use Rattle.std.proofs.Common.{◌≡◌, ℕ, List, length, take, ap, ◌∙◌, refl, subst, arith, take-take, Option, None, Some, IfSome}
+use Rattle.std.specs.Io.KnownBytes.{Appends}
+use lib.Seq.{take_at}
+use Rattle.respond.specs.declared.Response.{Response}
+use Rattle.respond.specs.Program.{input_max, output_of, program_output, response_of}
+
+pub counting_bytes : (r : Response) (o : List ℕ) → r ≡ response_of o → take r.len r.bytes ≡ o
+unfolding response_of
+counting_bytes r o e = ap (λ (x : Response). take x.len x.bytes) e ∙ take_at o _ (length o) refl
+
+used_front : (xs front : List ℕ) → front ≡ take input_max xs → program_output front ≡ program_output xs
+unfolding program_output
+used_front xs front e = ap output_of (ap (take input_max) e ∙ take-take input_max input_max xs (omega arith))
+
+-- what was written for the bytes that were read
+pub exchanged : (P : Type 0) (a old new : Option (List ℕ)) (front : List ℕ) (k : ℕ) → k ≡ input_max → IfSome a (λ xs. front ≡ take k xs)
+    → Appends old new (program_output front) → IfSome a (λ xs. P → Appends old new (program_output xs))
+exchanged P None old new front k e f more = tt
+exchanged P (Some xs) old new front k e f more = λ p. subst (Appends old new) (used_front xs front (f ∙ ap (λ (n : ℕ). take n xs) e)) more

@@ -1,0 +1,16 @@
+-- The callees, put together; the digest lies within the request.
+use native.Mathlib.Omega.{arith}
+use Rattle.layout.specs.Words.{zeros}
+use Rattle.layout.proofs.Packing.{part_within}
+use Rattle.layout.proofs.Extendable.{extendable_to}
+use Rattle.request.proofs.extend.extension_values.Goals as goal
+
+pub extended_register-words-requires : goal.extended_register-words-requires
+extended_register-words-requires c =
+    omega (arith, extendable_to c.args.register c.requires.1)
+
+pub returns : goal.returns
+unfolding zeros
+returns c =
+    let digest = part_within 48 c.args.bytes.now 8 (omega (arith, c.requires.0)) in
+    rw (c.joined-inputs.ensures, c.extended_register-words.ensures, c.bytes_of-digest.ensures, ← c.requires.2, digest)

@@ -1,0 +1,14 @@
+-- `sha384::digest::digest` meets its contract: the digest of a message that is not too long. Assumes nothing.
+use lib.ListN.{length}
+use native.Mathlib.Omega.{arith}
+use borrow.Author.Tests.{le-leb, lt-leb}
+use Rattle.sha384.specs.Entries.{longest, digest_of}
+use Rattle.sha384.proofs.digest.digest.Goals as goal
+
+pub returns-then-message-le-LONGEST : goal.returns-then-message-le-LONGEST
+unfolding digest_of
+returns-then-message-le-LONGEST c = rw (le-leb (length c.args.message.now) longest (omega arith), c.hash-bytes.ensures)
+
+pub returns-else-message-le-LONGEST : goal.returns-else-message-le-LONGEST
+unfolding digest_of
+returns-else-message-le-LONGEST c = rw (lt-leb (length c.args.message.now) longest (omega arith))

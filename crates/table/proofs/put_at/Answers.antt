@@ -1,0 +1,31 @@
+-- `put_at` meets its contract: where both tests pass the row has the store (`store_at_law`); where one fails, so does the definition's, and word 0 is
+-- within the image. Assumes nothing.
+use native.Mathlib.Omega.{arith}
+use mathlib.Core.Path.{sym, ◌∙◌}
+use borrow.Author.Tests.{le-ltb}
+use Rattle.layout.proofs.Cases.{told}
+use Rattle.table.specs.Table.{number_of, store_at}
+use Rattle.table.proofs.ByKind.{store_at_law}
+use Rattle.table.proofs.put_at.Goals as goal
+
+pub row_put-requires : goal.row_put-requires
+row_put-requires c =
+    record { node_value = told c.index_ok.ensures c.if-index_ok.true; k_bound = omega (arith, c.number.ensures) }
+
+pub returns-then-k-number : goal.returns-then-k-number
+returns-then-k-number c =
+    let a = c.args in record {
+      value = c.row_put.ensures.value
+          ∙ sym (store_at_law a.kind a.k _ _ _ _ (told c.index_ok.ensures c.if-index_ok.true)
+          (omega (arith, c.number.ensures)));
+      address_lt_image_words = c.row_put.ensures.address_lt_image_words;
+    }
+
+pub returns-else-k-number : goal.returns-else-k-number
+unfolding store_at
+returns-else-k-number c =
+    let a = c.args in record { value = rw (told c.index_ok.ensures c.if-index_ok.true, le-ltb a.k (number_of a.kind) (omega (arith, c.number.ensures))); address_lt_image_words = omega arith }
+
+pub returns-else-index_ok : goal.returns-else-index_ok
+unfolding store_at
+returns-else-index_ok c = record { value = rw (told c.index_ok.ensures c.if-index_ok.false); address_lt_image_words = omega arith }

@@ -1,0 +1,5 @@
+-- `waggleloft_open_update_boot` meets its contract: what the opening answers is its definition. Assumes nothing.
+use Rattle.waggleloft.proofs.openings.waggleloft_open_update_boot.Goals as goal
+
+pub returns : goal.returns
+returns c = rw c.open_update_boot-booted.ensures.value at c.boot_into.ensures
