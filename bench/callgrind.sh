@@ -7,7 +7,7 @@ for command in valgrind callgrind_annotate; do
 done
 command -v gcc >/dev/null || { echo "gcc is not found: it builds the program for C"; exit 1; }
 [ -f target/staticlib/libwaggleloft.a ] ||
-    { echo "target/staticlib/libwaggleloft.a is not there: run 'rt staticlib waggleloft' first"; exit 1; }
+    { echo "target/staticlib/libwaggleloft.a is not there: run './archive' first"; exit 1; }
 
 work=$(mktemp -d)
 trap 'rm -rf "$work"' EXIT

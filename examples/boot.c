@@ -1,7 +1,7 @@
 /*
  * What boot code does with the core: a digest and a mailbox checksum.
  *
- *   rt staticlib waggleloft
+ *   ./archive
  *   gcc -std=c11 @tests/c/flags examples/boot.c target/staticlib/libwaggleloft.a -o target/boot && target/boot
  */
 #include <stdio.h>

@@ -2,7 +2,7 @@
  * A gearbox maker puts a digest of his program into a register of his own
  * (EXTEND_PCR) and reads the register back.
  *
- *   rt staticlib waggleloft
+ *   ./archive
  *   gcc -std=c11 @tests/c/flags examples/gearbox.c target/staticlib/libwaggleloft.a -o target/gearbox
  *   target/gearbox [REGISTER]       4 if left out; a register outside 4 to 30 is refused with number 12
  */

@@ -3,7 +3,7 @@
  * without the device secret, and the journal. After the last store of each work its
  * entry is taken and written out, before the next work is opened.
  *
- *   rt staticlib waggleloft
+ *   ./archive
  *   gcc -std=c11 @tests/c/flags examples/journal.c target/staticlib/libwaggleloft.a -o target/journal
  *   target/journal IMAGE JOURNAL && ./inspect IMAGE JOURNAL
  */

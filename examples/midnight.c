@@ -4,7 +4,7 @@
  * in plain words what the buyer then has, and prints the list: of each
  * measurement type, digest and svn. The same C calls are a unit's firmware.
  *
- *   rt staticlib waggleloft
+ *   ./archive
  *   gcc -std=c11 @tests/c/flags examples/midnight.c target/staticlib/libwaggleloft.a -o target/midnight
  *   target/midnight STORES       0 to 54: the stores that are made before the power is cut
  */

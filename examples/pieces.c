@@ -3,7 +3,7 @@
  * feed every slice as it arrives, finish. Here the slices are reads of a file,
  * or of standard input.
  *
- *   rt staticlib waggleloft
+ *   ./archive
  *   gcc -std=c11 @tests/c/flags examples/pieces.c target/staticlib/libwaggleloft.a -o target/pieces
  *   target/pieces FILE       or, from standard input: target/pieces
  */

@@ -3,7 +3,7 @@
  * handle that nobody else knows; it is extended when the part changes, its handle
  * is changed, and at last it is destroyed. The nodes are printed after each step.
  *
- *   rt staticlib waggleloft
+ *   ./archive
  *   gcc -std=c11 @tests/c/flags examples/tree.c target/staticlib/libwaggleloft.a -o target/tree && target/tree
  */
 #include <stdio.h>

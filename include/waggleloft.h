@@ -25,14 +25,14 @@
  * of a state that no begin made; and a call that hands back another number than
  * WAGGLELOFT_OK has written nothing.
  *
- * Platform: x86-64 with the System V calling convention, as today's toolchain
- * compiles for nothing else. The archive needs memcpy, uses SSE2 registers,
- * expects the stack aligned to 16 bytes at a call, and uses the 128 bytes below
- * the stack pointer (the red zone): an interrupt that comes on the same stack
- * must leave them alone, and must keep the SSE registers. The deepest stack is
- * below 3,100 bytes, of a request's opening; below 1,500 of the digest, below
- * 1,700 of the running digest, and 120 bytes of a store (bench/stack works out
- * each). No function allocates, keeps state, has a global variable, waits or
+ * Platform: x86-64, any processor, with the System V calling convention; the
+ * archive is built for nothing else. It needs memcpy and memset, uses SSE2
+ * registers, expects the stack aligned to 16 bytes at a call, and uses the 128
+ * bytes below the stack pointer (the red zone): an interrupt that comes on the
+ * same stack must leave them alone, and must keep the SSE registers. The deepest
+ * stack is below 5,800 bytes, of a request's opening; below 1,500 of the digest,
+ * below 1,700 of the running digest, and 136 bytes of a store (bench/stack works
+ * out each). No function allocates, keeps state, has a global variable, waits or
  * throws, so several threads may call them at the same time on different
  * buffers.
  */

@@ -9,8 +9,8 @@ usage="usage: tests/answer.sh --check | --write | --help
   --check   compares the table of docs/ANSWER.md with what the engine gives;
             the last line is 'N passed, M failed', the status 1 if they differ
   --write   writes the table into docs/ANSWER.md
-Needs target/bin/driver ('rt check driver') and target/staticlib/libwaggleloft.a
-('rt staticlib waggleloft')."
+Needs target/bin/driver ('./run --build driver') and
+target/staticlib/libwaggleloft.a ('./archive')."
 
 make_table() {
     need_cargo

@@ -11,7 +11,7 @@ usage="usage: tests/campaign.sh [SCRIPTS [FIRST_SEED]]
   FIRST_SEED   the seed of the first one (0 if left out)
   --help       this text
 The last line is 'N passed, M failed', the status 1 if one failed. Needs
-target/bin/driver and target/bin/mailbox ('rt check driver mailbox')."
+target/bin/driver and target/bin/mailbox ('./run --build driver mailbox')."
 
 if [ "$*" = --help ]; then echo "$usage" && exit 0; fi
 [ $# -le 2 ] || die 2 'too many words (--help tells the words)'

@@ -7,7 +7,8 @@
 #   old: TEXT, new: TEXT  what is replaced in it, once
 #
 # The definition's crate must still be proved and CRATE be refused, at a proof of its own. The last line
-# is 'N passed, M failed'; exit status 1 if one failed. Needs what `rt check` leaves in target/.
+# is 'N passed, M failed'; exit status 1 if one failed. Where the tree's own crates are built (`./archive`
+# builds most), what does not rest on the definition is taken from there and not proved again.
 set -euo pipefail
 cd "$(dirname "$(readlink -f "${BASH_SOURCE[0]}")")/.."
 . tests/shell.sh
@@ -15,42 +16,21 @@ cd "$(dirname "$(readlink -f "${BASH_SOURCE[0]}")")/.."
 
 only_help "usage: tests/definitions.sh [--help]
   Tries each wrong definition of tests/definitions/." "$@"
-for folder in target/rlib target/stamp; do
-    [ -d "$folder" ] || die 1 "$folder is missing: 'rt check' makes it"
-done
 make_scratch
 
 # The value of a line 'KEY: ..' of an edit.
 value() { sed -n "s/^$1: //p" "$2"; } # KEY EDIT
 
-# The crates that rest on one, itself included.
-above() { # CRATE
-    awk -v crate="$1" '
-        { sub(/#.*/, "") }
-        /:/ { name = $0; sub(/:.*/, "", name); sub(/^[^:]*:/, ""); rests[name] = $0 }
-        END {
-            found[crate] = more = 1
-            while (more) {
-                more = 0
-                for (name in rests) {
-                    n = split(rests[name], under, " ")
-                    for (i = 1; i <= n; i++)
-                        if (!(name in found) && under[i] in found) found[name] = more = 1
-                }
-            }
-            for (name in found) print name
-        }' crates.txt
-}
-
-# Makes a copy of the tree in which the definition is wrong. What is built of the crates beneath it is lent, and what
-# rests on it is not there, since it has to be proved anew.
+# Makes a copy of the tree in which the definition is wrong, with nothing that is built.
 copy() { # EDIT TREE
-    local rlib
-    mkdir -p "$2/target/rlib"
-    cp -R crates crates.txt "$2/"
-    cp -R target/stamp "$2/target/"
-    ln -s "$PWD"/target/rlib/* "$2/target/rlib/"
-    for rlib in $(above "$(value file "$1" | cut -d/ -f2)"); do rm -f "$2/target/rlib/$rlib.rlib" "$2/target/stamp/$rlib"; done
+    local part
+    mkdir -p "$2"
+    cp crates.txt "$2/"
+    for part in crates/*/{src,specs,proofs}; do
+        [ -d "$part" ] || continue
+        mkdir -p "$2/${part%/*}"
+        cp -R "$part" "$2/$part"
+    done
     OLD=$(value old "$1") NEW=$(value new "$1") awk '
         { text = text $0 "\n" }
         END {
@@ -61,25 +41,44 @@ copy() { # EDIT TREE
     mv "$2/edited" "$2/$(value file "$1")"
 }
 
+# `rt check` in a crate of the copy: the status, and what it said in the file LOG. It says last of which crate it
+# checked the proofs, after the crates beneath it.
+check() { # TREE CRATE LOG
+    local status=0
+    (cd "$1/crates/$2" && rt check --jobs 1 </dev/null) >"$3" 2>&1 || status=$?
+    echo "$status $(sed -n 's/^crate \([a-z0-9_]*\): modules .*/\1/p' "$3" | tail -n 1)"
+}
+
+# Whether a proof is refused, and every text of src/ and specs/ can be read.
+is_refused() { # LOG
+    grep -q '^logic=not-proved' "$1" && grep -qE '^(\./)?proofs/.*: error|^fn .*: no proof: ' "$1" &&
+        ! grep -qE '^(\./)?(src|specs)/.*: error' "$1"
+}
+
 # Says what becomes of a wrong definition.
 try() { # EDIT
-    local tree log crate home status=0
+    local tree log crate home below above
     crate=$(value refused "$1") home=$(value file "$1" | cut -d/ -f2)
     tree=$scratch/$(basename "$1" .edit) log=$scratch/$(basename "$1" .edit).log
     copy "$1" "$tree" || return 0
-    (cd "$tree" && RT_JOBS=1 rt check "$crate") >"$log" 2>&1 || status=$?
+    below=$(check "$tree" "$home" "$log.home")
+    above=$(check "$tree" "$crate" "$log")
     rm -rf "$tree"
-    if [ "$status" -eq 1 ] && grep -q "^rt: $home proved" "$log" && grep -q "crates/$crate/proofs/.*: error" "$log"; then
+    if [ "$below" != "0 $home" ]; then
+        echo "$home is not proved, status and crate $below: $(grep -m 1 'error' "$log.home" || tail -n 1 "$log.home")"
+    elif [ "$above" = "1 $crate" ] && is_refused "$log"; then
         echo refused
     else
-        echo "status $status: $(tail -n 1 "$log")"
+        echo "status and crate $above: $(grep -m 1 'error' "$log" || tail -n 1 "$log")"
     fi
 }
 
-# Two at a time: each takes one core.
+# As many at a time as there are cores, at most four: each takes one, and some memory.
+at_once=$(nproc)
+[ "$at_once" -le 4 ] || at_once=4
 said=()
 for edit in tests/definitions/*.edit; do
-    while [ "$(jobs -rp | wc -l)" -ge 2 ]; do wait -n; done
+    while [ "$(jobs -rp | wc -l)" -ge "$at_once" ]; do wait -n; done
     try "$edit" >"$scratch/$(basename "$edit").said" &
     said+=("$(basename "$edit")")
 done

@@ -41,6 +41,15 @@ expect 'a crate listed in a comment is refused' \
 echo 'stowaway: # no dependency' >>"$work/tree/crates.txt"
 expect 'the same folder is taken once it is listed' 'status 0' "$(listing)"
 
+mkdir "$work/tree/crates/archive"
+echo 'archive staticlib: stowaway' >>"$work/tree/crates.txt"
+expect 'a listed static library is taken' 'status 0' "$(listing)"
+
+rmdir "$work/tree/crates/archive"
+expect 'a listed static library without its folder is refused' \
+    $'crates.txt lists archive and there is no crates/archive\nstatus 1' "$(listing)"
+sed -i '$d' "$work/tree/crates.txt"
+
 rmdir "$work/tree/crates/stowaway"
 expect 'a listed crate without its folder is refused' \
     $'crates.txt lists stowaway and there is no crates/stowaway\nstatus 1' "$(listing)"
@@ -73,6 +82,24 @@ expect 'cargo without a result fails' '0 1' "$(counted cargo 101 'error: no\n')"
 expect 'cargo without a test fails' '0 1' "$(counted cargo 0 'test result: ok. 0 passed; 0 failed; 0 ignored\n')"
 expect 'a plain step that passes counts nothing' '0 0' "$(counted plain 0 '9 passed, 9 failed\n')"
 expect 'a plain step that fails counts once' '0 1' "$(counted plain 3 '')"
+
+# ---- the must-fail edits that `rt ci` could not try
+
+# What is said of a run of `rt ci` that printed this, and the exit status.
+edits() { # TEXT
+    local status=0
+    printf '%b' "$1" >"$work/log"
+    no_edit_is_bad "$work/log" || status=$?
+    echo "status $status"
+}
+whole='every proof and must-fail edit was done in this run'
+ok="rt: ok; handles allowed: none; must-fail edits: 3 refused"
+expect 'edits that are all refused' 'status 0' "$(edits "x\\n$ok; $whole\\n9 passed, 0 failed\\n")"
+expect 'edits refused only by a limit' 'status 0' "$(edits "$ok, 1 of them only by a limit; $whole\\n9 passed, 0 failed\\n")"
+expect 'a bad edit' "$ok, 2 bad; $whole"$'\nstatus 1' "$(edits "$ok, 2 bad; $whole\\n9 passed, 0 failed\\n")"
+expect 'a bad edit beside one refused only by a limit' "$ok, 1 of them only by a limit, 2 bad; $whole"$'\nstatus 1' \
+    "$(edits "$ok, 1 of them only by a limit, 2 bad; $whole\\n9 passed, 0 failed\\n")"
+expect 'a run that does not say ok' $'rt ci has no line \'rt: ok\'\nstatus 1' "$(edits 'rt: FAILED: layout\n9 passed, 1 failed\n')"
 
 # ---- the sizes that scripts take from the header
 

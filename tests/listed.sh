@@ -9,7 +9,7 @@ export LC_ALL=C
 cd "${1:-$(dirname "${BASH_SOURCE[0]}")/..}"
 
 listed() {
-    sed 's/#.*//; /:/!d; s/:.*//; s/[[:space:]]//g' crates.txt | sort
+    sed 's/#.*//; /:/!d; s/:.*//; s/^[[:space:]]*//; s/[[:space:]].*//' crates.txt | sort
 }
 
 folders() {

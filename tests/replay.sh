@@ -10,7 +10,7 @@ usage="usage: tests/replay.sh [PROGRAM]
   PROGRAM   the program to compare (target/bin/replay if left out)
   --help    this text
 The last line is 'N passed, M failed', the status 1 if one failed. Without
-PROGRAM it needs target/bin/replay ('rt check replay')."
+PROGRAM it needs target/bin/replay ('./run --build replay')."
 
 if [ "$*" = --help ]; then echo "$usage" && exit 0; fi
 [ $# -le 1 ] || die 2 'too many words (--help tells the words)'

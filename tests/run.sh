@@ -1,5 +1,5 @@
 #!/usr/bin/env bash
-# Tests of ./run and ./demo, from another folder and with the caller's standard input.
+# Tests of ./run, ./archive and ./demo, from another folder and with the caller's standard input.
 # The last line is 'N passed, M failed'; exit status 1 if one failed.
 set -euo pipefail
 root=$(cd "$(dirname "${BASH_SOURCE[0]}")/.." && pwd)
@@ -100,31 +100,63 @@ expect 'the version of ./run' "waggleloft $version" "$("$root/run" --version)"
 expect 'the newest entry of CHANGES.md' "## $version" "$(grep -m 1 '^## ' "$root/CHANGES.md")"
 expect 'the version of the header' "$version" "$(sed -n 's/^#define WAGGLELOFT_VERSION "\(.*\)"/\1/p' "$root/include/waggleloft.h")"
 
-# A tree in which nothing is built.
+# A tree in which nothing is built, and a toolchain of its own.
 mkdir -p tree/crates/sha384sum/src bin
 cp "$root/run" "$root/VERSION" tree/
-printf 'low: # rests on nothing\nhigh: low io\nother: low\nsha384sum: high low libc\n' >tree/crates.txt
+printf 'low: # rests on nothing\nhigh: low io\nother staticlib: low\nsha384sum: high low libc\n' >tree/crates.txt
 touch tree/crates/sha384sum/src/main.rt
-for tool in awk bash basename cat dirname find mkdir mktemp readlink rm tee touch tr; do
+for tool in awk bash basename cat chmod cp dirname find grep mkdir mktemp mv readlink rm tee tr; do
     ln -s "$(command -v "$tool")" "bin/$tool"
 done
-complains 'no toolchain' 2 'rt is not found' env PATH="$work/bin" "$work/tree/run" sha384sum
+tree_run() { env PATH="$work/bin" "$work/tree/run" "$@"; }
+complains 'no toolchain' 2 'rt is not found' tree_run sha384sum
 touch tree/target
 printf '#!/bin/sh\nexit 0\n' >bin/rt
 chmod +x bin/rt
-complains 'a tree that cannot be written' 2 'cannot be written' \
-    env PATH="$work/bin" "$work/tree/run" sha384sum
+complains 'a tree that cannot be written' 2 'cannot be written' tree_run sha384sum
 rm tree/target
-printf '#!/bin/sh\nmkdir -p target/bin\nprintf "#!/bin/sh\\ncat\\n" >target/bin/sha384sum\nchmod +x target/bin/sha384sum\n' >bin/rt
-expect 'a first run builds, and says so' 'abcstatus 0' \
-    "$(outcome env PATH="$work/bin:$PATH" "$work/tree/run" sha384sum <abc)"
+# `rt run` says where the program is that it has built, and then runs it.
+cat >bin/rt <<'END'
+#!/bin/sh
+[ "$*" = run ] || exit 2
+echo "rt: chose --jobs 2 for sha384sum" >&2
+mkdir -p out
+printf '#!/bin/sh\ncat\n' >out/sha384sum
+chmod +x out/sha384sum
+echo "logic=proved" >&2
+echo "rt: running out/sha384sum; to give it other input, run that file yourself" >&2
+echo "what it prints"
+exit 1
+END
+expect 'a first run builds, and says so' 'abcstatus 0' "$(outcome tree_run sha384sum <abc)"
 expect 'a first run names the crates and the log' 1 \
     "$(grep -c 'building and proving sha384sum: 3 crates, .* log: target/build.log' stderr)"
+expect 'a second run builds nothing' 'abcstatus 0' "$(outcome tree_run sha384sum <abc)"
+expect 'a second run says nothing' '' "$(cat stderr)"
 rm -r tree/target
 printf '#!/bin/sh\necho broken\nexit 1\n' >bin/rt
-expect 'a build that fails: status 2' 'status 2' \
-    "$(outcome env PATH="$work/bin" "$work/tree/run" sha384sum <abc)"
+expect 'a program that is built already is taken' 'abcstatus 0' "$(outcome tree_run sha384sum <abc)"
+expect 'a program that is built already: nothing is said' '' "$(cat stderr)"
+touch -d '1 minute' tree/crates/sha384sum/src/main.rt
+expect 'a build that fails: status 2' 'status 2' "$(outcome tree_run sha384sum <abc)"
 expect 'a build that fails: where the log is' 1 "$(grep -c 'target/build.log says why' stderr)"
+touch -d '1 hour ago' tree/crates/sha384sum/src/main.rt
+touch -d '1 minute' tree/crates.txt
+expect 'another crates.txt asks for a build' 'status 2' "$(outcome tree_run sha384sum <abc)"
+
+# The static library in that tree.
+cp "$root/archive" tree/
+mkdir -p tree/crates/waggleloft
+tree_archive() { env PATH="$work/bin" "$work/tree/archive" "$@"; }
+complains 'a word that the archive has not' 2 "there is no 'nope'" tree_archive nope
+expect 'help of the archive' '1 status 0' "$(outcome tree_archive --help | awk '/^usage: /{n++} END{print n, $0}')"
+printf '#!/bin/sh\n[ "$*" = "lib --cpu=x86-64" ] || exit 2\nmkdir -p out\npwd -P >out/libwaggleloft.a\n' >bin/rt
+expect 'the archive is built' 'status 0' "$(outcome tree_archive)"
+expect 'the archive: where it is put' "$(cd tree/crates/waggleloft && pwd -P)" "$(cat tree/target/staticlib/libwaggleloft.a)"
+printf '#!/bin/sh\necho broken\nexit 1\n' >bin/rt
+expect 'an archive that is not proved: status 1' $'broken\nstatus 1' "$(outcome tree_archive)"
+rm bin/rt
+complains 'an archive without a toolchain' 2 'rt is not found' tree_archive
 
 # ---- the demo
 

@@ -22,7 +22,7 @@ need_cargo() {
 }
 
 need_built() { # PROGRAM
-    [ -x "target/bin/$1" ] || die 1 "target/bin/$1 is missing: 'rt check $1' builds it"
+    [ -x "target/bin/$1" ] || die 1 "target/bin/$1 is missing: './run --build $1' builds it"
 }
 
 # Takes the words of a script that knows --help alone.

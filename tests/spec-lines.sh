@@ -22,16 +22,16 @@ esac
 cd "${1:-$(dirname "$(readlink -f "${BASH_SOURCE[0]}")")/..}"
 
 # The entries' definitions, and the statements of demand 3, of the running digest, of the journal and of a destroy.
-roots='opening/Openings:openRequest opening/Openings:openColdBoot opening/Openings:openUpdateBoot
-opening/Openings:statusNumber opening/Openings:bootNumber opening/Openings:outcomeNumber opening/Tasks:requestOf
-work/Entries:leftOf work/Entries:storeResult work/Entries:storeImage work/Entries:answerResult
-work/Entries:answerBuffer sha384/Entries:digestOf sha384/Entries:extended message/Checksum:checksumOf
-opening/Tasks:bootOf history/Demand:Demand3
-running/Running:begun running/Running:feedResult running/Running:finishResult running/Steps:RunningDigest
-work/Recorded:entryResult work/Recorded:entryBuffer journal_bytes/Results:numberRead journal_bytes/Results:entryRead
+roots='opening/Openings:open_request opening/Openings:open_cold_boot opening/Openings:open_update_boot
+opening/Openings:status_number opening/Openings:boot_number opening/Openings:outcome_number opening/Tasks:request_of
+work/Entries:left_of work/Entries:store_result work/Entries:store_image work/Entries:answer_result
+work/Entries:answer_buffer sha384/Entries:digest_of sha384/Entries:extended message/Checksum:checksum_of
+opening/Tasks:boot_of history/Demand:Demand3
+running/Running:begun running/Running:feed_result running/Running:finish_result running/Steps:RunningDigest
+work/Recorded:entry_result work/Recorded:entry_buffer journal_bytes/Results:number_read journal_bytes/Results:entry_read
 journal/Statements:Laid journal/Statements:ReadsBack journal/Statements:OneJournal journal/Statements:StopsThere
 journal/Statements:Decides replaying/Lives:Replays replaying/Lives:Accepts replaying/Unit:Records
-replaying/Unit:Inspected replaying/Unit:Vouches recount/OnImage:madeOn inspection/Pieces:Pieces tree/Statements:FreedExactly'
+replaying/Unit:Inspected replaying/Unit:Vouches recount/OnImage:made_on inspection/Pieces:Pieces tree/Statements:FreedExactly'
 
 shopt -s nullglob
 files=(crates/*/specs/*.antt)
@@ -43,7 +43,7 @@ awk -v roots="$roots" -v limit="$limit" -v list="$list" '
     /^use Rattle/ {
         from = $2; names = ""
         if (match($0, /\{.*\}/)) { names = substr($0, RSTART + 1, RLENGTH - 2); sub(/\.\{.*/, "", from) }
-        sub(/^Rattle·/, "", from); sub(/·specs\./, ".", from); sub(/\.specs\./, "/", from)
+        sub(/^Rattle\./, "", from); sub(/\.specs\./, "/", from)
         if (names != "") { n = split(names, word, /, */); for (i = 1; i <= n; i++) source[file, word[i]] = from }
         else if ($3 == "as") alias[file, $4] = from
         next
@@ -74,9 +74,13 @@ awk -v roots="$roots" -v limit="$limit" -v list="$list" '
             if (list) printf "%4d  %s\n", lines[d], d
             n = split(text[d], token, /[^A-Za-z0-9_.\x27-]+/)
             for (i = 1; i <= n; i++) {
-                if ((dot = index(token[i], ".")) > 1 && (f SUBSEP substr(token[i], 1, dot - 1)) in alias)
-                    reach(alias[f, substr(token[i], 1, dot - 1)] ":" substr(token[i], dot + 1))
-                else if ((f ":" token[i]) in holder) reach(f ":" token[i])
+                if ((dot = index(token[i], ".")) > 1) {
+                    name = substr(token[i], 1, dot - 1)
+                    if ((f SUBSEP name) in alias) { reach(alias[f, name] ":" substr(token[i], dot + 1)); continue }
+                    # Else it is a value and its field.
+                    token[i] = name
+                }
+                if ((f ":" token[i]) in holder) reach(f ":" token[i])
                 else if ((f SUBSEP token[i]) in source) reach(source[f, token[i]] ":" token[i])
             }
         }

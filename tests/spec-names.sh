@@ -1,6 +1,6 @@
 #!/usr/bin/env bash
 # Checks that docs/SPEC.md and docs/PROOF.md name what is there: each name in backquotes that stands before
-# a place, as `wellFormed` (tree/Tree), must stand in the file of that place.
+# a place, as `well_formed` (tree/Tree), must stand in the file of that place.
 #
 # Prints a line for each name that does not; the last line is 'N passed, M failed'.
 set -euo pipefail

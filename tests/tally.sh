@@ -13,6 +13,15 @@ cargo_counts() { # LOG
         awk '{ passed += $1; failed += $2 } END { if (NR) print passed + 0, failed + 0 }'
 }
 
+# Status 0 if the line 'rt: ok' of what `rt ci` printed calls no must-fail edit bad. `rt ci` passes over an
+# edit that could not be tried, so the gate asks for more. Prints the line if it does; a run without it says nothing.
+no_edit_is_bad() { # LOG
+    local said
+    said=$(grep '^rt: ok' "$1" | tail -n 1) || true
+    [ -n "$said" ] || { echo "rt ci has no line 'rt: ok'"; return 1; }
+    [[ ! $said =~ ,\ [0-9]+\ bad(;|$) ]] || { echo "$said"; return 1; }
+}
+
 # Prints 'PASSED FAILED' of a step. KIND says where its counts stand:
 #   line    in its last line
 #   cargo   in cargo's lines

@@ -16,10 +16,7 @@ fn main() {
     let archive = folder.join("libwaggleloft.a");
     println!("cargo:rerun-if-changed={}", archive.display());
     if !archive.is_file() {
-        eprintln!(
-            "{} is missing: run `rt staticlib waggleloft` first",
-            archive.display()
-        );
+        eprintln!("{} is missing: run `./archive` first", archive.display());
         std::process::exit(1);
     }
     println!("cargo:rustc-link-search=native={}", folder.display());

@@ -2,7 +2,7 @@
 # Builds the C and C++ programs over the archive, with the flags of tests/c/flags, and runs them: plain,
 # and with the address and undefined behaviour sanitizers. With the argument 'valgrind' each is run
 # once more under valgrind.
-# Needs target/staticlib/libwaggleloft.a (`rt staticlib waggleloft`).
+# Needs target/staticlib/libwaggleloft.a (`./archive`).
 # The last line is 'N passed, M failed'; exit status 1 if one failed.
 set -euo pipefail
 cd "$(dirname "${BASH_SOURCE[0]}")/../.."
@@ -11,7 +11,7 @@ cd "$(dirname "${BASH_SOURCE[0]}")/../.."
 . tests/unit.sh
 archive=target/staticlib/libwaggleloft.a
 built=target/c
-[ -f "$archive" ] || { echo "$archive is not there: run 'rt staticlib waggleloft' first"; exit 1; }
+[ -f "$archive" ] || { echo "$archive is not there: run './archive' first"; exit 1; }
 mkdir -p "$built"
 
 # The programs that count their own checks, and the examples.
@@ -139,6 +139,17 @@ all() { # SUFFIX COMMAND..
     for source in "${tests[@]}"; do counted "$@" "$built/$(name_of "$source")$suffix"; done
     run_examples "$suffix" "$@"
 }
+
+# What the archive needs from outside, and the kinds of instructions in it that not every x86-64 processor has: SSE3 and
+# later, AVX, bit counts.
+needed() { nm --undefined-only "$archive" | awk '$1 == "U" { print $2 }' | sort -u | tr '\n' ' '; }
+later() {
+    objdump --disassemble --no-show-raw-insn "$archive" |
+        awk '$1 ~ /^[0-9a-f]+:$/ && $2 ~ /^(v[a-z]|popcnt|lzcnt|crc32|andn|bextr|bls|pext|pdep|[rs][aoh][lr]x$|mulx|adc?ox|movbe|palignr|pshufb|ph(add|sub)|pabs|psign|pmaddubsw|pmulhrsw|pinsr[bdq]|pextr[bdq]|insertps|extractps|pmov[sz]x|pm(in|ax)(s[bd]|u[wd])|pmul(ld|dq)|packusdw|pcmp(eqq|gtq|[ei]str)|p?blend|round[ps]|ptest|dpp|mpsadbw|phminpos|movntdqa|h(add|sub)p|addsubp|mov(ddup|s[lh]dup)|lddqu|cmpxchg16b|aes|pclmul|sha[0-9])/ { print $2 }' |
+        sort -u | tr '\n' ' '
+}
+expect 'what the archive needs from outside' 'memcpy memset ' "$(needed)"
+expect 'instructions that not every x86-64 processor has' '' "$(later)"
 
 seq 200000 >"$built/numbers"
 for suffix in '' .san; do

@@ -1,5 +1,5 @@
 //! The Waggleloft measurement core for Rust firmware: safe calls of the proved archive
-//! `libwaggleloft.a` (x86-64 only, as today's toolchain compiles for nothing else).
+//! `libwaggleloft.a` (x86-64 only: it is built for nothing else).
 //!
 //! The unit's memory is an image of [`IMAGE_WORDS`] words that the caller holds. An opening, of a boot
 //! or of a mailbox request, reads the image and prepares a [`Work`]; the work is then run one store at

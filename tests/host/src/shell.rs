@@ -7,14 +7,14 @@ use std::process::{Child, Command, Output, Stdio};
 use std::thread::sleep;
 use std::time::Duration;
 
-/// The program of that name that `rt check` builds.
+/// The program of that name that `./run --build` builds.
 pub fn built_program(name: &str) -> PathBuf {
     let path = Path::new(env!("CARGO_MANIFEST_DIR"))
         .join("../../target/bin")
         .join(name);
     assert!(
         path.is_file(),
-        "target/bin/{name} is missing: run `rt check {name}` first"
+        "target/bin/{name} is missing: run `./run --build {name}` first"
     );
     path
 }
