@@ -2,21 +2,22 @@
 ghost use Rattle.std.specs.Prelude.{◌≡◌};
 ghost use Rattle.opening.specs.Tasks.{boot_of};
 ghost use Rattle.opening.specs.Works.{cold_values};
-ghost use Rattle.opening.specs.Openings.{boot_number, outcome_in, open_cold_boot, cold_booted};
-ghost use Rattle.boot.specs.Given.{given};
+ghost use Rattle.opening.specs.Openings.{status_number, boot_number, outcome_in, open_cold_boot, cold_booted, done_by};
+ghost use Rattle.boot.specs.Given.{given, cold_ruled};
 
-use crate::inputs::{Inputs, digests_of, extend_by_boot, inputs_of, inputs_ok};
+use crate::inputs::{Inputs, digests_of, extend_by_boot};
 use crate::ready::ready_with;
-use layout::refusals::{WRONG_IMAGE, WRONG_INPUTS};
-use layout::{HANDLE_BYTES, IMAGE_WORDS, INTERNAL_FLAG, ROOT_MARK, ROOT_TYPE};
+use crate::screen::screened;
+use layout::refusals::Refusal;
+use layout::{HANDLE_BYTES, INTERNAL_FLAG, ROOT_MARK, ROOT_TYPE};
 use making::Values;
 use making::run::run_all;
 use nodes::node_row;
-use opening::works::{boot_number, boot_refused};
-use opening::{BootStatus, Booted, Outcome};
+use opening::{Opened, Outcome};
 use sha384::digest::extend;
 use slices::little_endian::pack;
 use table::Kind;
+use work::Work;
 
 // The root's locality and svn.
 const ROOT_LOCALITY: u32 = 0;
@@ -53,33 +54,47 @@ fn cold_values(x: Inputs) -> Values
     }
 }
 
+// The work that a cold boot opens.
+fn cold_work(
+    image: &[u32],
+    runtime: &[u8],
+    manifest: &[u8],
+    secret: &[u8],
+) -> Result<(Work, Outcome), Refusal>
+    ensures { result ≡ cold_ruled image.now (boot_of runtime.now manifest.now secret.now) }
+{
+    let x = screened(image, runtime, manifest, secret)?;
+    Ok((ready_with(Kind::ColdBoot, cold_values(x)), Outcome::Cold))
+}
+
 // Opens a cold boot: it reads only the image's length and changes nothing.
-pub fn open_cold_boot(image: &[u32], runtime: &[u8], manifest: &[u8], secret: &[u8]) -> Booted
+// The inputs stay loose parameters, since the C interface (`waggleloft_open_cold_boot`) takes them so.
+pub fn open_cold_boot(
+    image: &[u32],
+    runtime: &[u8],
+    manifest: &[u8],
+    secret: &[u8],
+) -> Opened<Outcome>
     ensures value { result ≡ open_cold_boot image.now (boot_of runtime.now manifest.now secret.now) }
     ensures status_value { boot_number result.status ≡ boot_number (open_cold_boot image.now (boot_of runtime.now manifest.now secret.now)).status }
     ensures status_value_2 { outcome_in result.status ≡ outcome_in (open_cold_boot image.now (boot_of runtime.now manifest.now secret.now)).status }
 {
-    if image.len() != IMAGE_WORDS {
-        return boot_refused(WRONG_IMAGE);
-    }
-    if !inputs_ok(runtime, manifest, secret) {
-        return boot_refused(WRONG_INPUTS);
-    }
-    let x = inputs_of(runtime, manifest, secret);
-    ready_with(Kind::ColdBoot, cold_values(x), Outcome::Cold)
+    Opened::from(cold_work(image, runtime, manifest, secret))
 }
 
 // Boots an image cold: opens the boot and makes all its stores. Refused, it stores nothing.
-pub fn boot_cold(image: &mut [u32], runtime: &[u8], manifest: &[u8], secret: &[u8]) -> u32
-    ensures value { result ≡ boot_number (open_cold_boot image.old (boot_of runtime.now manifest.now secret.now)).status }
+pub fn boot_cold(
+    image: &mut [u32],
+    runtime: &[u8],
+    manifest: &[u8],
+    secret: &[u8],
+) -> Result<(), Refusal>
+    ensures value { result ≡ done_by (open_cold_boot image.old (boot_of runtime.now manifest.now secret.now)).status }
+    ensures number_value { status_number result ≡ boot_number (open_cold_boot image.old (boot_of runtime.now manifest.now secret.now)).status }
     ensures image_after { image.new ≡ cold_booted image.old (boot_of runtime.now manifest.now secret.now) }
 {
     let booted = open_cold_boot(image, runtime, manifest, secret);
-    let status = booted.status;
-    let BootStatus::Ready(_) = status else {
-        return boot_number(status);
-    };
-    let work = booted.work;
-    run_all(work, image);
-    0
+    booted.status?;
+    run_all(booted.work, image);
+    Ok(())
 }

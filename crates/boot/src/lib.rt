@@ -4,4 +4,5 @@
 pub mod cold;
 mod inputs;
 mod ready;
+mod screen;
 pub mod update;

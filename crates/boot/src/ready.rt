@@ -1,21 +1,13 @@
-// Boots that are ready: a work of which no store is made, with no answer.
+// The work of a boot that is ready: no store of it is made, and it has no answer.
 ghost use Rattle.std.specs.Prelude.{◌≡◌, []};
-ghost use Rattle.making.specs.Made.{work_with, plain_work};
+ghost use Rattle.making.specs.Made.{work_with};
 
-use making::{Values, bare_work, new_work, no_answer};
-use opening::works::boot_ready;
-use opening::{BootStatus, Booted, Outcome};
+use making::{Values, new_work, no_answer};
 use table::Kind;
+use work::Work;
 
-pub(crate) fn ready_with(kind: Kind, values: Values, outcome: Outcome) -> Booted
-    ensures { result ≡ record { work = work_with kind values []; status = BootStatus.Ready outcome } }
+pub(crate) fn ready_with(kind: Kind, values: Values) -> Work
+    ensures { result ≡ work_with kind values [] }
 {
-    boot_ready(new_work(kind, values, no_answer()), outcome)
-}
-
-// With a work that stores no prepared word.
-pub(crate) fn ready_bare(kind: Kind, outcome: Outcome) -> Booted
-    ensures { result ≡ record { work = plain_work kind []; status = BootStatus.Ready outcome } }
-{
-    boot_ready(bare_work(kind), outcome)
+    new_work(kind, values, no_answer())
 }

@@ -9,25 +9,26 @@ ghost use Rattle.tree.specs.Nodes.{tree_in, cumulative_in};
 ghost use Rattle.opening.specs.Tasks.{boot_of, update};
 ghost use Rattle.opening.specs.Works.{work_at, update_values};
 ghost use Rattle.opening.specs.Openings.{boot_number, outcome_in, root_matches, intact, open_update_boot};
-ghost use Rattle.boot.specs.Given.{given};
+ghost use Rattle.boot.specs.Given.{given, update_ruled};
 
-use crate::inputs::{Inputs, digests_of, extend_by_boot, inputs_of, inputs_ok};
-use crate::ready::{ready_bare, ready_with};
-use layout::refusals::{WRONG_IMAGE, WRONG_INPUTS};
+use crate::inputs::{Inputs, digests_of, extend_by_boot};
+use crate::ready::ready_with;
+use crate::screen::screened;
+use layout::refusals::Refusal;
 use layout::{
-    ATTESTATION_AT, CUMULATIVE_AT, CURRENT_AT, IMAGE_WORDS, MARK_AT, NODE_WORDS, NODES_AT, PCR3_AT,
+    ATTESTATION_AT, CUMULATIVE_AT, CURRENT_AT, MARK_AT, NODE_WORDS, NODES_AT, PCR3_AT,
     REGISTER_WORDS,
 };
-use making::Values;
+use making::{Values, bare_work};
 use nodes::measurements_row;
-use opening::works::boot_refused;
-use opening::{BootStatus, Booted, Outcome};
+use opening::{Opened, Outcome};
 use packing::{bytes_in, word};
 use sha384::digest::extend;
 use slices::little_endian::pack;
 use table::Kind;
 use tree::formed::well_formed;
 use tree::index::root_index;
+use work::Work;
 
 // The root's current measurement equals PCR3, word for word.
 fn root_matches(image: &[u32], root: usize) -> bool
@@ -35,28 +36,18 @@ fn root_matches(image: &[u32], root: usize) -> bool
     ensures { result ≡ root_matches image.now }
 {
     let at = NODES_AT + NODE_WORDS * root;
-    for k in 0..REGISTER_WORDS {
-        if word(image, at + (CURRENT_AT + k)) != word(image, PCR3_AT + k) {
-            return false;
-        }
-    }
-    true
+    (0..REGISTER_WORDS).all(|k| word(image, at + (CURRENT_AT + k)) == word(image, PCR3_AT + k))
 }
 
+#[tactic(auto, unfolding(opening::specs::Openings::intact))]
 fn is_intact(image: &[u32]) -> bool
     requires { length image.now ≡ image_words }
     ensures { result ≡ intact image.now }
 {
-    if image[MARK_AT] != 1 {
-        return false;
-    }
-    if image[ATTESTATION_AT] != 1 {
-        return false;
-    }
-    if !well_formed(image) {
-        return false;
-    }
-    root_matches(image, root_index(image))
+    image[MARK_AT] == 1
+        && image[ATTESTATION_AT] == 1
+        && well_formed(image)
+        && root_matches(image, root_index(image))
 }
 
 // The root's measurements from the new journey.
@@ -91,37 +82,46 @@ fn update_values(image: &[u32], root: usize, x: Inputs) -> Values
 }
 
 // An update, by ROM's verdict.
-fn updated(image: &[u32], x: Inputs) -> Booted
-    ensures { result ≡ record { work = work_at image.now (update (given x)) []; status = BootStatus.Ready Outcome.Updated } }
+fn updated(image: &[u32], x: Inputs) -> Work
+    ensures { result ≡ work_at image.now (update (given x)) [] }
 {
     let root = root_index(image);
     let values = update_values(image, root, x);
-    ready_with(Kind::Update(root), values, Outcome::Updated)
+    ready_with(Kind::Update(root), values)
+}
+
+// The work that an update boot opens.
+fn update_work(
+    image: &[u32],
+    runtime: &[u8],
+    manifest: &[u8],
+    secret: &[u8],
+    verdict: bool,
+) -> Result<(Work, Outcome), Refusal>
+    ensures { result ≡ update_ruled image.now (boot_of runtime.now manifest.now secret.now) verdict }
+{
+    let x = screened(image, runtime, manifest, secret)?;
+    if !is_intact(image) {
+        return Ok((bare_work(Kind::Disabling), Outcome::Disabled));
+    }
+    if !verdict {
+        return Ok((bare_work(Kind::Nothing), Outcome::Kept));
+    }
+    Ok((updated(image, x), Outcome::Updated))
 }
 
 // Opens an update boot: it reads the image and changes nothing.
+// The inputs stay loose parameters, since the C interface (`waggleloft_open_update_boot`) takes them so.
 pub fn open_update_boot(
     image: &[u32],
     runtime: &[u8],
     manifest: &[u8],
     secret: &[u8],
     verdict: bool,
-) -> Booted
+) -> Opened<Outcome>
     ensures value { result ≡ open_update_boot image.now (boot_of runtime.now manifest.now secret.now) verdict }
     ensures status_value { boot_number result.status ≡ boot_number (open_update_boot image.now (boot_of runtime.now manifest.now secret.now) verdict).status }
     ensures status_value_2 { outcome_in result.status ≡ outcome_in (open_update_boot image.now (boot_of runtime.now manifest.now secret.now) verdict).status }
 {
-    if image.len() != IMAGE_WORDS {
-        return boot_refused(WRONG_IMAGE);
-    }
-    if !inputs_ok(runtime, manifest, secret) {
-        return boot_refused(WRONG_INPUTS);
-    }
-    if !is_intact(image) {
-        return ready_bare(Kind::Disabling, Outcome::Disabled);
-    }
-    if !verdict {
-        return ready_bare(Kind::Nothing, Outcome::Kept);
-    }
-    updated(image, inputs_of(runtime, manifest, secret))
+    Opened::from(update_work(image, runtime, manifest, secret, verdict))
 }

@@ -13,7 +13,7 @@ use Rattle.layout.specs.Words.{zeros}
 use Rattle.message.specs.Checksum.{checksum_of}
 use Rattle.tree.specs.Nodes.{tree_in}
 use Rattle.tree.proofs.Cycles.{own_parent_law}
-use Rattle.work.specs.Entries.{store_number}
+use Rattle.work.specs.Entries.{store_given, store_number}
 use Rattle.opening.specs.Rules.{answer_of}
 use Rattle.opening.specs.Openings.{open_request, open_cold_boot, open_update_boot}
 use Rattle.cards.specs.Cards.{GivesOne, StashRequest, Cards}
@@ -25,7 +25,7 @@ use Rattle.cards.proofs.Program.{disabled_output}
 -- *6: the first rule of every entry
 
 wrong_size : (image : List ℕ) → eqb (length image) image_words ≡ false → GivesOne image
-unfolding open_request open_cold_boot open_update_boot store_number
+unfolding open_request open_cold_boot open_update_boot store_number store_given
 wrong_size image e = record { request = λ r. rw e; cold_boot = λ x. rw e; update_boot = λ x v. rw e; store = λ w. rw e }
 
 -- *9: the request of card 3

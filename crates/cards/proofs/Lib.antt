@@ -4,3 +4,4 @@ pub mod Images
 pub mod Program
 pub mod Cards
 pub mod Figures
+pub mod Digests

@@ -1,6 +1,6 @@
 -- Document 01's bench cards *1 to *9, "shown by proof as one table under a single statement", and card 10; 4 and 10 as document 02, §11, has them,
 -- 6 as its §7 has it. Assumes nothing.
-use Rattle.std.specs.Prelude.{◌≡◌, ◌⊎◌, ◌≢◌, ℕ, ◌<◌, ◌≤◌, Bool, true, false, List, [], ◌∷◌, length, get_or, drop}
+use Rattle.std.specs.Prelude.{◌≡◌, ◌⊎◌, ◌≢◌, ⊤, Ok, ℕ, ◌<◌, ◌≤◌, Bool, true, false, List, [], ◌∷◌, length, get_or, drop}
 use Rattle.layout.specs.Sizes.{node_count, image_words, mark_at, attestation_at}
 use Rattle.layout.specs.Words.{le32, zeros}
 use Rattle.layout.specs.Below.{count_below}
@@ -14,7 +14,6 @@ use Rattle.table.specs.declared.StashAt.{StashAt}
 use Rattle.work.specs.declared.Work.{Work}
 use Rattle.opening.specs.Tasks.{Request, BootInputs}
 use Rattle.opening.specs.Openings.{status_number, boot_number, open_request, open_cold_boot, open_update_boot, cold_booted}
-use Rattle.opening.specs.declared.Status.TheVariants as status
 use Rattle.opening.specs.declared.Opened.{Opened}
 use Rattle.respond.specs.Program.{program_output}
 use Rattle.cards.specs.Images.{image_with, own_parent_image, zero_stash}
@@ -52,14 +51,14 @@ abbrev pub used_nodes : List ℕ → ℕ
 used_nodes image = count_below node_count (λ i. (tree_in image i).used)
 
 -- "stash accepted": a stash at a node is open with all its stores left, and its answer's dpe result is 0
-pub record Accepted (o : Opened) : Type 0 where
-  pub status : o.status ≡ status.Ready
+pub record Accepted (o : Opened ⊤) : Type 0 where
+  pub status : o.status ≡ Ok tt
   pub kind : (s : StashAt) × (o.work.kind ≡ Stash s) × (left_of o.work ≡ number_of (Stash s))
   pub result : le32 o.work.answer 8 ≡ 0
 
 -- "dpe result" n: success with nothing to store, and that in the answer
-pub record Declined (o : Opened) (n : ℕ) : Type 0 where
-  pub status : o.status ≡ status.Ready
+pub record Declined (o : Opened ⊤) (n : ℕ) : Type 0 where
+  pub status : o.status ≡ Ok tt
   pub kind : o.work.kind ≡ Nothing
   pub left : left_of o.work ≡ 0
   pub result : le32 o.work.answer 8 ≡ n

@@ -2,3 +2,4 @@
 pub mod Images
 pub mod Cards
 pub mod Figures
+pub mod Digests

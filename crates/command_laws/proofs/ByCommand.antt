@@ -14,6 +14,7 @@ use lib.Seq.{length-take-le}
 use borrow.Author.Tests.{lt-ltb, leb-false, eqb-true}
 use Rattle.layout.specs.Sizes.{node_count, answer_max, extendable}
 use Rattle.layout.specs.Words.{bytes4}
+use Rattle.layout.specs.Numbers.{refusal_number}
 use Rattle.layout.specs.Refusals.{not_well_formed}
 use Rattle.tree.specs.Tree.{Tree, well_formed, lowest_free, node_with, default_words}
 use Rattle.tree.specs.Nodes.{tree_in}
@@ -29,7 +30,7 @@ use Rattle.command_laws.proofs.Indices.{order_index}
 -- ---- refusal 11
 
 abbrev pub Not11 : Verdict → Type 0
-Not11 (refuse n) = n ≢ not_well_formed
+Not11 (refuse r) = refusal_number r ≢ not_well_formed
 Not11 (decline n) = Unit {0}
 
 -- no rule that is reached and applies has the number 11

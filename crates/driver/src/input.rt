@@ -1,248 +1,241 @@
-// Reading an operation: its letter and its arguments.
-ghost use Rattle.std.specs.Prelude.{◌≡◌, ◌+◌, ◌*◌, ◌<◌, ◌≤◌, length};
-ghost use Rattle.driver.specs.Run.{input_bytes, Formed, Whole};
+// Reading the operations: a letter and its arguments.
+ghost use Rattle.std.specs.Prelude.{◌≡◌, ◌+◌, ◌*◌, ◌<◌, ◌≤◌, length, IfSome, OnSome};
+ghost use Rattle.driver.specs.Run.{memory_words};
 
 use crate::state::MEMORY_WORDS;
-use machine::{ANSWER, COLD_BOOT, ENTRY, POWER_CUT, REQUEST, STORE, UPDATE_BOOT};
-use slices::little_endian::{byte, read32, read64};
+use machine::{BootInputs, Op, RequestInputs};
 
-// The operations that are no act of the machine, after the machine's numbers.
-pub const LEND: u8 = 7;
-
-pub const LEFT: u8 = 8;
-
-pub const SET: u8 = 9;
-
-pub const DUMP: u8 = 10;
-
-pub const STOP: u8 = 11;
-
-// Those of the running digest.
-pub const BEGIN: u8 = 12;
-
-pub const FEED: u8 = 13;
-
-pub const FINISH: u8 = 14;
-
-pub const SET_COUNT: u8 = 15;
-
-// An operation: the machine's number of its act or one of the above, and where the next one stands.
-// Up to three byte strings, each from its start to its end: a boot's runtime digest, manifest digest and
-// secret, a request's handoff table and bytes, an image's words, a slice. `code` is a request's or the part
-// that is set, `number` the count of stores or the value that is set, `size` that of an answer's or an
-// entry's buffer, `words` that of the image that is lent.
+// The bytes of an image's words, which the memory has room for.
 #[derive(Clone, Copy)]
-pub(crate) struct Operation {
-    pub kind: u8,
-    pub end: usize,
-    pub first: usize,
-    pub first_end: usize,
-    pub second: usize,
-    pub second_end: usize,
-    pub third: usize,
-    pub third_end: usize,
-    pub code: u32,
-    pub caller: u32,
-    pub verdict: bool,
-    pub number: usize,
-    pub size: usize,
-    pub words: usize,
+pub(crate) struct Image<'a> {
+    pub bytes: &'a [u8],
+    ghost fits: { length bytes.now ≤ 4 * memory_words },
 }
 
-// An operation with no arguments.
-fn bare(kind: u8, at: usize, end: usize) -> Operation
-    requires { at < end }
-    ensures formed { Formed at result }
-    ensures end_value { result.end ≡ end }
-{
-    Operation {
-        kind,
-        end,
-        first: 0,
-        first_end: 0,
-        second: 0,
-        second_end: 0,
-        third: 0,
-        third_end: 0,
-        code: 0,
-        caller: 0,
-        verdict: false,
-        number: 0,
+// An act of the machine, which uses those of the inputs that it has; the others are empty. Only an answer's or an
+// entry's buffer has a size.
+#[derive(Clone, Copy)]
+pub(crate) struct Act<'a> {
+    pub op: Op,
+    pub request: RequestInputs<'a>,
+    pub boot: BootInputs<'a>,
+    pub size: u16,
+}
+
+// An act with no inputs.
+pub(crate) fn bare(op: Op) -> Act<'static> {
+    Act {
+        op,
+        request: RequestInputs {
+            code: 0,
+            bytes: &[],
+            caller: 0,
+            handoff: &[],
+            verdict: false,
+            fresh: &[],
+        },
+        boot: BootInputs {
+            runtime: &[],
+            manifest: &[],
+            secret: &[],
+        },
         size: 0,
-        words: 0,
     }
 }
 
-// A byte string's length, two bytes.
-fn string_length(input: &[u8], at: usize) -> usize
-    ensures { result < 65536 }
-{
-    byte(input, at, 0) as usize + 256 * byte(input, at, 1) as usize
+// An operation: those on the image and the work in hand, and then those on the running digest. `Stores` has their
+// count, `Set` and `SetCount` what is set and its value.
+#[derive(Clone, Copy)]
+pub(crate) enum Operation<'a> {
+    Lend(Image<'a>),
+    Act(Act<'a>),
+    Stores(u32),
+    Left,
+    Set(u8, u64),
+    Dump,
+    Begin,
+    Feed(&'a [u8]),
+    Finish,
+    SetCount(u8, u64),
 }
 
-// One byte string of so many bytes, behind four bytes that tell its length.
-fn with_string(kind: u8, at: usize, count: usize) -> Operation
-    requires { (at < input_bytes) × (count < 4294967296) }
-    ensures { Formed at result }
-{
-    let first = at + 5;
-    let end = first + count;
-    let mut read = bare(kind, at, end);
-    read.first = first;
-    read.first_end = end;
-    read.second = end;
-    read.second_end = end;
-    read.third = end;
-    read.third_end = end;
-    read
+// The input that is not read yet. Its methods give nothing where the input is cut short.
+#[derive(Drop)]
+pub(crate) struct Input<'a> {
+    pub rest: &'a [u8],
 }
 
-// Two byte strings from an index on, each after its length.
-fn with_strings(kind: u8, input: &[u8], at: usize, from: usize) -> Operation
-    requires { (at ≤ from) × (from < 2097152) }
-    ensures formed { Formed at result }
-    ensures end_bound { result.end < 4194304 }
-{
-    let first = from + 2;
-    let first_end = first + string_length(input, from);
-    let second = first_end + 2;
-    let end = second + string_length(input, first_end);
-    let mut read = bare(kind, at, end);
-    read.first = first;
-    read.first_end = first_end;
-    read.second = second;
-    read.second_end = end;
-    read.third = end;
-    read.third_end = end;
-    read
-}
-
-// A third one after its length, and `more` bytes behind it.
-fn with_third(two: Operation, input: &[u8], at: usize, more: usize) -> Operation
-    requires { Formed at two × (two.end < 4194304) × (more ≤ 1) }
-    ensures { Formed at result }
-{
-    let third = two.end + 2;
-    let third_end = third + string_length(input, two.end);
-    let mut read = two;
-    read.end = third_end + more;
-    read.third = third;
-    read.third_end = third_end;
-    read
-}
-
-// A boot, cold or update: runtime digest, manifest digest and secret, and then ROM's verdict where there
-// is one.
-fn boot(kind: u8, input: &[u8], at: usize, more: usize) -> Operation
-    requires { (at < input_bytes) × (more ≤ 1) }
-    ensures { Formed at result }
-{
-    let digests = with_strings(kind, input, at, at + 1);
-    let mut read = with_third(digests, input, at, more);
-    read.verdict = byte(input, read.third_end, 0) == 1;
-    read
-}
-
-// A request: code, caller and verdict, then the handoff table, the request and the fresh handle.
-fn request(input: &[u8], at: usize) -> Operation
-    requires { at < input_bytes }
-    ensures { Formed at result }
-{
-    let strings = with_strings(REQUEST, input, at, at + 10);
-    let mut read = with_third(strings, input, at, 0);
-    read.code = read32(input, at + 1);
-    read.caller = read32(input, at + 5);
-    read.verdict = byte(input, at, 9) == 1;
-    read
-}
-
-// An image: its word count and its words. One that is too long ends the run.
-fn image(input: &[u8], at: usize) -> Operation
-    requires { (at < length input.now) × (at < input_bytes) }
-    ensures { Formed at result }
-{
-    let count = read32(input, at + 1) as usize;
-    if MEMORY_WORDS < count {
-        return bare(STOP, at, input.len());
+impl<'a> Input<'a> {
+    // The next bytes, so many.
+    fn slice(&mut self, n: usize) -> Option<&'a [u8]>
+        ensures no_longer { length self.new.rest.now ≤ length self.old.rest.now }
+        ensures len { IfSome result (λ s. length s.now ≡ n) }
+    {
+        let (front, rest) = self.rest.split_at_checked(n)?;
+        self.rest = rest;
+        Some(front)
     }
-    let mut read = with_string(LEND, at, 4 * count);
-    read.words = count;
-    read
-}
 
-// A slice, after its length in four bytes.
-fn slice(input: &[u8], at: usize) -> Operation
-    requires { at < input_bytes }
-    ensures { Formed at result }
-{
-    with_string(FEED, at, read32(input, at + 1) as usize)
-}
-
-// Stores: how many.
-fn stores(input: &[u8], at: usize) -> Operation
-    requires { at < input_bytes }
-    ensures { Formed at result }
-{
-    let mut read = bare(STORE, at, at + 5);
-    read.number = read32(input, at + 1) as usize;
-    read
-}
-
-// An answer or a journal entry: the buffer's size.
-fn taking(kind: u8, input: &[u8], at: usize) -> Operation
-    requires { at < input_bytes }
-    ensures { Formed at result }
-{
-    let mut read = bare(kind, at, at + 3);
-    read.size = string_length(input, at + 1);
-    read
-}
-
-// A part of the work in hand, or a count of the running digest, and its value.
-fn part(kind: u8, input: &[u8], at: usize) -> Operation
-    requires { at < input_bytes }
-    ensures { Formed at result }
-{
-    let mut read = bare(kind, at, at + 10);
-    read.code = byte(input, at, 1) as u32;
-    read.number = read64(input, at + 2) as usize;
-    read
-}
-
-// The operation that a letter begins, whether or not the input has it whole.
-fn begun(input: &[u8], at: usize) -> Operation
-    requires { (at < length input.now) × (length input.now ≤ input_bytes) }
-    ensures { Formed at result }
-{
-    let letter = input[at];
-    match letter {
-        b'I' => image(input, at),
-        b'C' => boot(COLD_BOOT, input, at, 0),
-        b'U' => boot(UPDATE_BOOT, input, at, 1),
-        b'R' => request(input, at),
-        b'S' => stores(input, at),
-        b'A' => taking(ANSWER, input, at),
-        b'J' => taking(ENTRY, input, at),
-        b'L' => bare(LEFT, at, at + 1),
-        b'X' => bare(POWER_CUT, at, at + 1),
-        b'W' => part(SET, input, at),
-        b'D' => bare(DUMP, at, at + 1),
-        b'b' => bare(BEGIN, at, at + 1),
-        b'f' => slice(input, at),
-        b'e' => bare(FINISH, at, at + 1),
-        b'w' => part(SET_COUNT, input, at),
-        _ => bare(STOP, at, input.len()),
+    // The next N bytes.
+    fn bytes<const N: usize>(&mut self) -> Option<[u8; N]>
+        ensures { OnSome result (length self.new.rest.now + N ≤ length self.old.rest.now) }
+    {
+        let (front, rest) = self.rest.split_first_chunk::<N>()?;
+        self.rest = rest;
+        Some(*front)
     }
-}
 
-// The operation at an index. One that the input cuts short ends the run.
-pub(crate) fn read_operation(input: &[u8], at: usize) -> Operation
-    requires { (at < length input.now) × (length input.now ≤ input_bytes) }
-    ensures { (at < result.end) × Whole (length input.now) result }
-{
-    let read = begun(input, at);
-    if input.len() < read.end {
-        return bare(STOP, at, input.len());
+    fn u8(&mut self) -> Option<u8>
+        ensures { OnSome result (length self.new.rest.now < length self.old.rest.now) }
+    {
+        let [byte] = self.bytes::<1>()?;
+        Some(byte)
     }
-    read
+
+    fn u16(&mut self) -> Option<u16>
+        ensures { OnSome result (length self.new.rest.now ≤ length self.old.rest.now) }
+    {
+        Some(u16::from_le_bytes(self.bytes()?))
+    }
+
+    fn u32(&mut self) -> Option<u32>
+        ensures { OnSome result (length self.new.rest.now ≤ length self.old.rest.now) }
+    {
+        Some(u32::from_le_bytes(self.bytes()?))
+    }
+
+    fn u64(&mut self) -> Option<u64>
+        ensures { OnSome result (length self.new.rest.now ≤ length self.old.rest.now) }
+    {
+        Some(u64::from_le_bytes(self.bytes()?))
+    }
+
+    // A byte string after its length, two bytes.
+    fn string(&mut self) -> Option<&'a [u8]>
+        ensures { OnSome result (length self.new.rest.now ≤ length self.old.rest.now) }
+    {
+        let n = self.u16()?;
+        self.slice(usize::from(n))
+    }
+
+    // A longer one, after its length in four bytes.
+    fn long_string(&mut self) -> Option<&'a [u8]>
+        ensures { OnSome result (length self.new.rest.now ≤ length self.old.rest.now) }
+    {
+        let n = self.u32()?;
+        self.slice(n as usize)
+    }
+
+    // An image after its word count. One that is too long is none.
+    fn image(&mut self) -> Option<Image<'a>>
+        ensures { OnSome result (length self.new.rest.now ≤ length self.old.rest.now) }
+    {
+        let count = self.u32()? as usize;
+        if count > MEMORY_WORDS {
+            return None;
+        }
+        let bytes = self.slice(4 * count)?;
+        Some(Image { bytes })
+    }
+
+    // A boot's inputs.
+    fn boot(&mut self) -> Option<BootInputs<'a>>
+        ensures { OnSome result (length self.new.rest.now ≤ length self.old.rest.now) }
+    {
+        Some(BootInputs {
+            runtime: self.string()?,
+            manifest: self.string()?,
+            secret: self.string()?,
+        })
+    }
+
+    // ROM's verdict: a byte, which is 1 where it is good.
+    fn verdict(&mut self) -> Option<bool>
+        ensures { OnSome result (length self.new.rest.now ≤ length self.old.rest.now) }
+    {
+        Some(self.u8()? == 1)
+    }
+
+    fn cold_boot(&mut self) -> Option<Act<'a>>
+        ensures { OnSome result (length self.new.rest.now ≤ length self.old.rest.now) }
+    {
+        let boot = self.boot()?;
+        Some(Act {
+            boot,
+            ..bare(Op::ColdBoot)
+        })
+    }
+
+    fn update_boot(&mut self) -> Option<Act<'a>>
+        ensures { OnSome result (length self.new.rest.now ≤ length self.old.rest.now) }
+    {
+        let boot = self.boot()?;
+        let verdict = self.verdict()?;
+        let none = bare(Op::UpdateBoot);
+        Some(Act {
+            request: RequestInputs {
+                verdict,
+                ..none.request
+            },
+            boot,
+            ..none
+        })
+    }
+
+    // A request: code, caller and verdict, then the handoff table, the request and the fresh handle.
+    fn request(&mut self) -> Option<Act<'a>>
+        ensures { OnSome result (length self.new.rest.now ≤ length self.old.rest.now) }
+    {
+        let code = self.u32()?;
+        let caller = self.u32()?;
+        let verdict = self.verdict()?;
+        let handoff = self.string()?;
+        let bytes = self.string()?;
+        let fresh = self.string()?;
+        Some(Act {
+            request: RequestInputs {
+                code,
+                bytes,
+                caller,
+                handoff,
+                verdict,
+                fresh,
+            },
+            ..bare(Op::Request)
+        })
+    }
+
+    // An answer or a journal entry: the buffer's size.
+    fn taking(&mut self, op: Op) -> Option<Act<'a>>
+        ensures { OnSome result (length self.new.rest.now ≤ length self.old.rest.now) }
+    {
+        let size = self.u16()?;
+        Some(Act { size, ..bare(op) })
+    }
+
+    // The next operation. There is none at the end of the input, at an unknown letter, at an operation that the input
+    // cuts short and at an image that is too long.
+    pub(crate) fn next(&mut self) -> Option<Operation<'a>>
+        ensures { OnSome result (length self.new.rest.now < length self.old.rest.now) }
+    {
+        let letter = self.u8()?;
+        Some(match letter {
+            b'I' => Operation::Lend(self.image()?),
+            b'C' => Operation::Act(self.cold_boot()?),
+            b'U' => Operation::Act(self.update_boot()?),
+            b'R' => Operation::Act(self.request()?),
+            b'S' => Operation::Stores(self.u32()?),
+            b'A' => Operation::Act(self.taking(Op::Answer)?),
+            b'J' => Operation::Act(self.taking(Op::Entry)?),
+            b'L' => Operation::Left,
+            b'X' => Operation::Act(bare(Op::PowerCut)),
+            b'W' => Operation::Set(self.u8()?, self.u64()?),
+            b'D' => Operation::Dump,
+            b'b' => Operation::Begin,
+            b'f' => Operation::Feed(self.long_string()?),
+            b'e' => Operation::Finish,
+            b'w' => Operation::SetCount(self.u8()?, self.u64()?),
+            _ => return None,
+        })
+    }
 }

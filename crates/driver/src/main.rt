@@ -15,96 +15,72 @@ mod parts;
 mod pieces;
 mod state;
 
-ghost use Rattle.std.specs.Prelude.{◌≡◌, ◌≤◌, length};
-ghost use Rattle.driver.specs.Run.{memory_words, input_bytes, Whole};
+ghost use Rattle.std.specs.Prelude.{◌≡◌, length};
+ghost use Rattle.driver.specs.Run.{input_bytes};
 
-use crate::calls::{one_act, stores};
-use crate::input::{DUMP, Operation, read_operation};
-use crate::parts::{alone, dump, lent};
-use crate::pieces::digested;
-use crate::state::{INPUT_BYTES, MEMORY_WORDS, Operated, none_in_hand};
-use layout::IMAGE_WORDS;
-use machine::{InHand, POWER_CUT, STORE};
-use reading::read_whole;
-use std::io::Write;
+use crate::input::Input;
+use crate::state::{INPUT_BYTES, fresh};
+use reading::{ReadFailed, read_whole};
+use std::io::{Read, Write};
+use std::{fmt, io};
 
-// Makes an operation on the image that is lent.
-fn operate<W: Write>(
-    out: &mut W,
-    given: Operation,
-    input: &[u8],
-    image: &mut [u32],
-    hand: InHand,
-) -> Operated
-    requires whole { Whole (length input.now) given }
-    requires image_len_bound { length image.old ≤ memory_words }
-{
-    let kind = given.kind;
-    if kind == STORE {
-        return stores(out, given, input, image, hand, given.number);
+// The operations one after another, until one gave something that cannot be written.
+fn run<W: Write>(out: &mut W, bytes: &[u8]) -> io::Result<()> {
+    let mut state = fresh();
+    let mut input = Input { rest: bytes };
+    while let Some(given) = input.next() {
+        state.operate(out, given)?;
     }
-    if kind <= POWER_CUT {
-        return one_act(out, given, input, image, hand);
-    }
-    if kind == DUMP {
-        return dump(out, image, hand);
-    }
-    alone(out, given, hand)
+    Ok(())
 }
 
-// The operations one after another, from an image of zeros and a running digest just begun, until one
-// gave something that cannot be written. Tells whether all was written.
-fn run<W: Write>(out: &mut W, input: &[u8]) -> bool
-    requires { length input.now ≤ input_bytes }
-{
-    let mut memory = [0u32; MEMORY_WORDS];
-    let mut words = IMAGE_WORDS;
-    let mut hand = none_in_hand();
-    let mut state = running::begin();
-    let mut at = 0;
-    while at < input.len() {
-        let given = read_operation(input, at);
-        words = lent(given, input, &mut memory, words);
-        let made = operate(out, given, input, &mut memory[..words], hand);
-        let digesting = digested(out, given, input, state);
-        if !(made.written && digesting.written) {
-            return false;
-        }
-        let after = made.hand;
-        hand = after;
-        let next = digesting.state;
-        state = next;
-        at = given.end;
-    }
-    true
-}
-
-// Room for the input: of a longer one only this much is used. The `ensures` gives only the length,
-// which lending it needs.
+// Room for the input: of a longer one only this much is used. A function of its own, as the prover runs out of
+// stack where it sees an array of that length beside what is made of it.
 fn room() -> [u8; INPUT_BYTES]
     ensures { input_bytes ≡ length result }
 {
     [0; INPUT_BYTES]
 }
 
-// These too are lost where they cannot be written.
-fn say_unread<W: Write>(errors: &mut W) {
-    let _ = errors.write_all(b"driver: the input cannot be read: nothing was run\n");
+// Why a run failed.
+#[derive(Clone, Copy, Debug, PartialEq, Eq)]
+enum RunError {
+    Unread,
+    Unwritten,
 }
 
-fn say_unwritten<W: Write>(errors: &mut W) {
-    let _ = errors.write_all(b"driver: the output cannot be written: the run ended there\n");
-}
-
-fn main(rt: HostRuntime) {
-    let mut space = room();
-    let read = read_whole(&mut rt.stdin(), &mut space);
-    if !read.whole {
-        say_unread(&mut rt.stderr());
-        return;
+impl fmt::Display for RunError {
+    fn fmt<W: fmt::Write>(&self, f: &mut fmt::Formatter<W>) -> fmt::Result {
+        f.write_str(match self {
+            RunError::Unread => "the input cannot be read: nothing was run",
+            RunError::Unwritten => "the output cannot be written: the run ended there",
+        })
     }
-    let n = read.count;
-    if !run(&mut rt.stdout(), &space[..n]) {
-        say_unwritten(&mut rt.stderr());
+}
+
+impl From<ReadFailed> for RunError {
+    fn from(_failed: ReadFailed) -> RunError {
+        RunError::Unread
+    }
+}
+
+impl From<io::Error> for RunError {
+    fn from(_failed: io::Error) -> RunError {
+        RunError::Unwritten
+    }
+}
+
+// Reads the input, and runs its operations.
+fn play<R: Read, W: Write>(input: &mut R, out: &mut W) -> Result<(), RunError> {
+    let mut space = room();
+    let n = read_whole(input, &mut space)?;
+    run(out, &space[..n])?;
+    Ok(())
+}
+
+// A message that cannot be written either is lost.
+fn main(rt: HostRuntime) {
+    if let Err(error) = play(&mut rt.stdin(), &mut rt.stdout()) {
+        let _ = writeln!(rt.stderr(), "driver: {error}");
     }
 }

@@ -1,16 +1,14 @@
 -- The entries' C forms over a lent buffer of words. Each is the entry's own definition, of the work that the words are (Flat), and is defined
 -- for every buffer: one of another length than a work's gets a number of its own, and nothing is written. Assumes nothing.
-use Rattle.std.specs.Prelude.{ℕ, ◌+◌, cond, List, ◌≡◌, eqb, length, set}
+use Rattle.std.specs.Prelude.{ℕ, ◌+◌, ⊤, Result, Ok, Err, cond, List, ◌≡◌, eqb, length, set}
+use Rattle.layout.specs.declared.refusals.Refusal.{Refusal}
 use Rattle.work.specs.declared.Work.{Work}
 use Rattle.work.specs.Entries.{left_of, store_result, store_image, answer_result, answer_buffer}
-use Rattle.work.specs.Recorded.{entry_result, entry_buffer}
+use Rattle.work.specs.Recorded.{taking_bytes, entry_result, entry_buffer}
+use Rattle.layout.specs.Numbers.{told_number}
 use Rattle.opening.specs.Openings.{status_number, boot_number, outcome_number}
-use Rattle.opening.specs.declared.Status.{Status}
-use Rattle.opening.specs.declared.Status.TheVariants as status
 use Rattle.opening.specs.declared.Opened.{Opened}
-use Rattle.opening.specs.declared.BootStatus.{BootStatus}
-use Rattle.opening.specs.declared.BootStatus.TheVariants as boot_status
-use Rattle.opening.specs.declared.Booted.{Booted}
+use Rattle.opening.specs.declared.Outcome.{Outcome}
 use Rattle.flat.specs.Flat.{work_size, position_word, low_of, high_of, work_words, work_of}
 
 -- the number of a buffer that is not as long as a work
@@ -23,30 +21,26 @@ of_work l a other = cond (eqb (length l) work_size) a other
 
 -- ---- openings: a refused one leaves all as it was
 
-abbrev pub if_ready : {A : Type 0} → Status → A → A → A
-if_ready status.Ready a other = a
-if_ready (status.Refused n) a other = other
+abbrev pub if_ready : {T A : Type 0} → Result T Refusal → A → A → A
+if_ready (Ok t) a other = a
+if_ready (Err r) a other = other
 
 -- what an opening over the words `before` hands back, and what it leaves there
-pub record OpensAs (before after : List ℕ) (number : ℕ) (o : Opened) : Type 0 where
+pub record OpensAs (before after : List ℕ) (number : ℕ) (o : Opened ⊤) : Type 0 where
   pub number_is : number ≡ of_work before (status_number o.status) wrong_work
   pub words_are : after ≡ of_work before (if_ready o.status (work_words o.work) before) before
   pub work_is : work_of after ≡ of_work before (if_ready o.status o.work (work_of before)) (work_of before)
 
-abbrev pub if_booted : {A : Type 0} → BootStatus → A → A → A
-if_booted (boot_status.Ready o) a other = a
-if_booted (boot_status.Refused n) a other = other
-
 -- the outcome's number, where there is one
-abbrev pub outcome_after : BootStatus → ℕ → ℕ
-outcome_after (boot_status.Ready o) before = outcome_number o
-outcome_after (boot_status.Refused n) before = before
+abbrev pub outcome_after : Result Outcome Refusal → ℕ → ℕ
+outcome_after (Ok o) before = outcome_number o
+outcome_after (Err r) before = before
 
 -- the same of a boot, with the outcome that it leaves
-pub record BootsAs (before after : List ℕ) (outcome outcome' : ℕ) (number : ℕ) (b : Booted) : Type 0 where
+pub record BootsAs (before after : List ℕ) (outcome outcome' : ℕ) (number : ℕ) (b : Opened Outcome) : Type 0 where
   pub number_is : number ≡ of_work before (boot_number b.status) wrong_work
-  pub words_are : after ≡ of_work before (if_booted b.status (work_words b.work) before) before
-  pub work_is : work_of after ≡ of_work before (if_booted b.status b.work (work_of before)) (work_of before)
+  pub words_are : after ≡ of_work before (if_ready b.status (work_words b.work) before) before
+  pub work_is : work_of after ≡ of_work before (if_ready b.status b.work (work_of before)) (work_of before)
   pub outcome_is : outcome' ≡ of_work before (outcome_after b.status outcome) outcome
 
 -- ---- the entries over a work
@@ -84,10 +78,10 @@ answer_buffer_in l buffer = of_work l (answer_buffer (work_of l) buffer) buffer
 
 -- the journal entry (document 02, §3), as the answer
 unfoldable pub entry_number_in : List ℕ → List ℕ → ℕ
-entry_number_in l buffer = of_work l (entry_result (work_of l) buffer).number wrong_work
+entry_number_in l buffer = of_work l (told_number (entry_result (work_of l) buffer)) wrong_work
 
 unfoldable pub entry_written : List ℕ → List ℕ → ℕ → ℕ
-entry_written l buffer n = cond (eqb (entry_number_in l buffer) 0) (entry_result (work_of l) buffer).written n
+entry_written l buffer n = cond (eqb (entry_number_in l buffer) 0) (taking_bytes (entry_result (work_of l) buffer)) n
 
 unfoldable pub entry_buffer_in : List ℕ → List ℕ → List ℕ
 entry_buffer_in l buffer = of_work l (entry_buffer (work_of l) buffer) buffer

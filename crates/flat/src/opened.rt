@@ -2,36 +2,31 @@
 ghost use Rattle.flat.specs.Forms.{OpensAs, BootsAs};
 
 use crate::words::{WORK_WORDS, WRONG_WORK, write_work};
-use opening::works::{boot_number, number_of, outcome_number};
-use opening::{BootStatus, Booted, Opened, Status};
+use opening::{Opened, Outcome};
 
-pub fn open_into(opened: Opened, work: &mut [u32]) -> u32
+pub fn open_into(opened: Opened<()>, work: &mut [u32]) -> u32
     ensures { OpensAs work.old work.new result opened }
 {
     if work.len() != WORK_WORDS {
         return WRONG_WORK;
     }
-    let status = opened.status;
-    let w = opened.work;
-    let Status::Ready = status else {
-        return number_of(status);
+    let Ok(()) = opened.status else {
+        return opened.number();
     };
-    write_work(w, work);
+    write_work(opened.work, work);
     0
 }
 
-pub fn boot_into(booted: Booted, work: &mut [u32], outcome: &mut u32) -> u32
+pub fn boot_into(booted: Opened<Outcome>, work: &mut [u32], outcome: &mut u32) -> u32
     ensures { BootsAs work.old work.new outcome.old outcome.new result booted }
 {
     if work.len() != WORK_WORDS {
         return WRONG_WORK;
     }
-    let status = booted.status;
-    let w = booted.work;
-    let BootStatus::Ready(o) = status else {
-        return boot_number(status);
+    let Ok(told) = booted.status else {
+        return booted.number();
     };
-    write_work(w, work);
-    *outcome = outcome_number(o);
+    write_work(booted.work, work);
+    *outcome = u32::from(told);
     0
 }

@@ -5,13 +5,13 @@
 // inputs, four bytes to a word, the first lowest.
 ghost use Rattle.std.specs.Prelude.{◌≡◌, [], ◌∷◌, length, get_or};
 ghost use Rattle.work.specs.Parts.{standing};
-ghost use Rattle.flat.specs.Flat.{AllBytes, PartsLong, work_size, low_of, high_of, head_of, row_of, work_words, work_of};
+ghost use Rattle.flat.specs.Flat.{work_size, low_of, high_of, head_of, row_of, work_words, work_of};
 
 use layout::{ANSWER_MAX, INPUT_BYTES, NODE_WORDS, REGISTER_WORDS};
 use packing::word;
 use slices::little_endian::read32;
 use table::Kind;
-use table::coding::encode;
+use table::coding::Coded;
 use work::Work;
 
 pub const FIRST_IN: usize = 1;
@@ -83,7 +83,7 @@ fn head(
 fn head_of(kind: Kind, position: usize, answer_len: usize) -> [u32; REGISTER_IN]
     ensures { result ≡ head_of (standing kind position answer_len []) }
 {
-    let coded = encode(kind);
+    let coded = Coded::from(kind);
     head(
         coded.number,
         coded.first,
@@ -93,64 +93,32 @@ fn head_of(kind: Kind, position: usize, answer_len: usize) -> [u32; REGISTER_IN]
     )
 }
 
-// Word k of the parts one after another.
-fn row_word<'a>(
-    head: &'a [u32],
-    register: &'a [u32],
-    journey: &'a [u32],
-    node: &'a [u32],
-    secret: &'a [u32],
-    answer: &'a [u8],
-    inputs: &'a [u8],
-    k: usize,
-) -> u32
-    requires { PartsLong head.now register.now journey.now node.now secret.now }
-    ensures { result ≡ get_or (row_of head.now register.now journey.now node.now secret.now answer.now inputs.now) k 0 }
+// Word k of a head and a work's other parts, one after another.
+fn row_word(head: &[u32; REGISTER_IN], w: &Work, k: usize) -> u32
+    ensures { result ≡ get_or (row_of head.now w.now.register w.now.journey w.now.node w.now.secret w.now.answer w.now.inputs) k 0 }
 {
     if k < REGISTER_IN {
         return word(head, k);
     }
     if k < JOURNEY_IN {
-        return word(register, k - REGISTER_IN);
+        return word(&w.register, k - REGISTER_IN);
     }
     if k < NODE_IN {
-        return word(journey, k - JOURNEY_IN);
+        return word(&w.journey, k - JOURNEY_IN);
     }
     if k < SECRET_IN {
-        return word(node, k - NODE_IN);
+        return word(&w.node, k - NODE_IN);
     }
     if k < ANSWER_IN {
-        return word(secret, k - SECRET_IN);
+        return word(&w.secret, k - SECRET_IN);
     }
     if k < INPUTS_IN {
-        return read32(answer, 4 * (k - ANSWER_IN));
+        return read32(&w.answer, 4 * (k - ANSWER_IN));
     }
     if k < WORK_WORDS {
-        return read32(inputs, 4 * (k - INPUTS_IN));
+        return read32(&w.inputs, 4 * (k - INPUTS_IN));
     }
     0
-}
-
-fn write_row<'a>(
-    head: &'a [u32],
-    register: &'a [u32],
-    journey: &'a [u32],
-    node: &'a [u32],
-    secret: &'a [u32],
-    answer: &'a [u8],
-    inputs: &'a [u8],
-    out: &mut [u32],
-)
-    requires out_len { length out.old ≡ work_size }
-    requires parts_long { PartsLong head.now register.now journey.now node.now secret.now }
-    ensures out_after { out.new ≡ row_of head.now register.now journey.now node.now secret.now answer.now inputs.now }
-    ensures all_bytes { AllBytes answer.now × AllBytes inputs.now }
-{
-    let mut k = 0;
-    while k < WORK_WORDS {
-        out[k] = row_word(head, register, journey, node, secret, answer, inputs, k);
-        k += 1;
-    }
 }
 
 pub(crate) fn write_work(w: Work, out: &mut [u32])
@@ -160,13 +128,7 @@ pub(crate) fn write_work(w: Work, out: &mut [u32])
 {
     let kind = w.kind;
     let head = head_of(kind, w.position, w.answer_len);
-    let register = w.register;
-    let journey = w.journey;
-    let node = w.node;
-    let secret = w.secret;
-    let answer = w.answer;
-    let inputs = w.inputs;
-    write_row(
-        &head, &register, &journey, &node, &secret, &answer, &inputs, out,
-    );
+    for k in 0..WORK_WORDS {
+        out[k] = row_word(&head, &w, k);
+    }
 }

@@ -3,10 +3,14 @@ use Prim.Native.Nat.{ℕ}
 use mathlib.Core.Path.{◌≡◌, refl, sym, ap, ◌∙◌}
 use mathlib.Core.Bool.{Bool, true, false, cond, not, ◌||◌}
 use mathlib.Core.List.{List}
+use native.Mathlib.Omega.{arith}
 use borrow.Author.Tests.{ne_eqb}
 use lib.Dec.{eqb, leb, ltb}
 use Rattle.layout.specs.Sizes.{node_count}
 use Rattle.layout.specs.Refusals as number
+use Rattle.layout.specs.Refusals.{decline_number}
+use Rattle.layout.specs.declared.refusals.Decline.{Decline}
+use Rattle.layout.specs.declared.refusals.Decline.TheVariants as decline
 use Rattle.tree.specs.Tree.{Tree, retired_words, same_handle, node_with}
 use Rattle.tree.specs.Nodes.{tree_in}
 use Rattle.nodes.specs.Record.{handle_row}
@@ -17,6 +21,18 @@ use Rattle.orders.specs.declared.Operation.TheVariants.{Derive, Extend, Rotate, 
 use Rattle.orders.specs.declared.Order as told
 use Rattle.orders.specs.Told.{command_by, command_from}
 use Rattle.grounds.specs.Ground.{first_of, ground_of, malformed_by, handle_declines, own_ground}
+
+-- a decline's number is not 0
+pub not_accepted : (d : Decline) → decline_number d ≡ 0 → ⊥
+not_accepted decline.Full e = absurd (omega (arith, e))
+not_accepted decline.Off e = absurd (omega (arith, e))
+not_accepted decline.NoHolder e = absurd (omega (arith, e))
+not_accepted decline.Malformed e = absurd (omega (arith, e))
+not_accepted decline.NoHandle e = absurd (omega (arith, e))
+not_accepted decline.Caller e = absurd (omega (arith, e))
+not_accepted decline.Fresh e = absurd (omega (arith, e))
+not_accepted decline.Root e = absurd (omega (arith, e))
+not_accepted decline.Children e = absurd (omega (arith, e))
 
 -- the handle's declines, and where none of them applies the operation's own
 abbrev pub behind : ℕ → ℕ → ℕ

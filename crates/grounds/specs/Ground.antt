@@ -1,7 +1,10 @@
 -- The dpe result by which a tree command is declined, "the first .. that applies" (document 02, §5). Assumes nothing.
-use Rattle.std.specs.Prelude.{ℕ, Bool, cond, not, ◌||◌, List, [], ◌∷◌, eqb, leb}
+use Rattle.std.specs.Prelude.{ℕ, Bool, cond, not, ◌||◌, List, [], ◌∷◌, eqb, leb, Result, Ok, Err}
 use Rattle.layout.specs.Sizes.{node_count}
+use Rattle.layout.specs.Numbers.{refusal_number}
 use Rattle.layout.specs.Refusals as number
+use Rattle.layout.specs.Refusals.{decline_number}
+use Rattle.layout.specs.declared.refusals.Decline.{Decline}
 use Rattle.tree.specs.Tree.{Tree, retired_words, same_handle, is_root, lowest_free, childless}
 use Rattle.tree.specs.Nodes.{tree_in}
 use Rattle.opening.specs.Orders.{traits_of, fresh_for, unfit}
@@ -16,8 +19,13 @@ use Rattle.orders.specs.Told.{command_by, command_from}
 abbrev pub order_of : told.Order → (fresh : List ℕ) (caller : ℕ) → Order
 order_of o fresh caller = record { command = command_from o; fresh = fresh_for (command_from o) fresh; caller = caller }
 
+-- the dpe result that the code's answer stands for: 0, or the decline's number, which is never 0 and belongs to that one decline
+abbrev pub dpe_result : Result (Unit {0}) Decline → ℕ
+dpe_result (Ok served) = number.dpe_accepted
+dpe_result (Err d) = decline_number d
+
 abbrev pub number_of : Verdict → ℕ
-number_of (refuse n) = n
+number_of (refuse r) = refusal_number r
 number_of (decline n) = n
 
 -- the number of the first rule that applies, 0 where none does

@@ -8,18 +8,14 @@ ghost use Rattle.opening.specs.Orders.{unfit};
 
 use layout::{HANDLE_BYTES, HANDLE_WORDS, NODES, RETIRED_WORD};
 use nodes::handle_words;
+use slices::strings::bytes_of;
 use tree::index::handle_index;
 
 // Whether a handle's words are all v.
 pub(crate) fn all_are(handle: [u32; HANDLE_WORDS], v: u32) -> bool
     ensures { result ≡ same_handle handle (replicate handle_words v) }
 {
-    for k in 0..HANDLE_WORDS {
-        if handle[k] != v {
-            return false;
-        }
-    }
-    true
+    handle == [v; HANDLE_WORDS]
 }
 
 // The words of a lent handle.
@@ -27,9 +23,7 @@ fn fresh_words(fresh: &[u8]) -> [u32; HANDLE_WORDS]
     requires { length fresh.now ≡ handle_bytes }
     ensures { result ≡ handle_row fresh.now }
 {
-    let mut handle = [0u8; HANDLE_BYTES];
-    copying::copy(fresh, &mut handle);
-    handle_words(handle)
+    handle_words(bytes_of(fresh, 0))
 }
 
 // Whether a handle is the default one, the retired one or a node's.
@@ -37,21 +31,12 @@ fn taken(image: &[u32], handle: [u32; HANDLE_WORDS]) -> bool
     ensures { result ≡ (same_handle handle default_words
         || (same_handle handle retired_words || ltb (node_with node_count (tree_in image.now) handle) node_count)) }
 {
-    if all_are(handle, 0) {
-        return true;
-    }
-    if all_are(handle, RETIRED_WORD) {
-        return true;
-    }
-    handle_index(image, handle) < NODES
+    all_are(handle, 0) || all_are(handle, RETIRED_WORD) || handle_index(image, handle) < NODES
 }
 
 // Whether a lent handle of any length will not do.
 pub(crate) fn is_unfit(image: &[u32], fresh: &[u8]) -> bool
     ensures { result ≡ unfit (tree_in image.now) fresh.now }
 {
-    if fresh.len() != HANDLE_BYTES {
-        return true;
-    }
-    taken(image, fresh_words(fresh))
+    fresh.len() != HANDLE_BYTES || taken(image, fresh_words(fresh))
 }

@@ -6,17 +6,16 @@ use mathlib.Core.List.{List}
 use lib.ListN.{length}
 use borrow.Author.Tests.{eq-eqb, ne_eqb}
 use Rattle.work.specs.declared.Work.{Work}
-use Rattle.work.specs.declared.Answered.{Answered}
-use Rattle.work.specs.Entries.{well_shaped, finished, answer_number, answer_result, answer_buffer}
+use Rattle.work.specs.Entries.{Answered, well_shaped, finished, answer_given, answer_number, answer_result, answer_buffer}
 use Rattle.flat.specs.Flat.{work_size, work_of, answering_of}
 use Rattle.flat.specs.Forms.{answer_number_in, answer_written, answer_buffer_in}
 
 result_same : (w : Work) (buffer : List ℕ) → answer_result (answering_of w) buffer ≡ answer_result w buffer
-unfolding answering_of answer_result answer_number finished well_shaped
+unfolding answering_of answer_result answer_number answer_given finished well_shaped
 result_same w buffer = refl
 
 buffer_same : (w : Work) (buffer : List ℕ) → answer_buffer (answering_of w) buffer ≡ answer_buffer w buffer
-unfolding answering_of answer_buffer answer_number finished well_shaped
+unfolding answering_of answer_buffer answer_number answer_given finished well_shaped
 buffer_same w buffer = refl
 
 module _ (l buffer : List ℕ) (w : Work) (a : Answered) (h : length l ≡ work_size) (e : w ≡ answering_of (work_of l)) (r : a ≡ answer_result w buffer) where

@@ -3,27 +3,27 @@
 -- (`store_step`): a work with a store left is of a known kind, whose position is the words' own. Assumes nothing.
 use Prim.Native.Nat.{ℕ, ◌+◌, ◌/◌, ◌%◌, ◌≤◌, ◌<◌}
 use mathlib.Core.Path.{◌≡◌, refl, sym, ap, ◌∙◌}
-use mathlib.Core.Bool.{Bool, true, false, cond}
+use mathlib.Core.Bool.{Bool, true, false}
 use mathlib.Core.List.{List}
 use native.Mathlib.Omega.{arith}
-use lib.Dec.{ltb, eqb}
+use lib.Dec.{eqb}
 use lib.ListN.{length, get_or, set, take, drop, length-set}
 use lib.Seq.{get_or-set_same, get_or-set_other}
-use borrow.Author.Tests.{eq-eqb, ne_eqb, ltb-true, eqb-true, eqb-false}
-use Rattle.layout.specs.Sizes.{register_words, node_words, answer_max, input_bytes, image_words}
+use borrow.Author.Tests.{eq-eqb, ne_eqb, eqb-true, eqb-false}
+use Rattle.layout.specs.Sizes.{register_words, node_words, answer_max, input_bytes}
 use Rattle.layout.specs.Words.{part, byte_of}
 use Rattle.layout.proofs.Tab.{tab_is, get_d_tab, length_tab}
 use Rattle.layout.proofs.Packing.{length_part, get_d_part, part_within}
 use Rattle.table.specs.declared.Kind.{Kind}
 use Rattle.work.specs.declared.Work.{Work}
-use Rattle.work.specs.declared.Stored.{Stored}
 use Rattle.table.specs.Table.{number_of}
-use Rattle.work.specs.Entries.{left_of, moved, store_number, store_result, store_image}
-use Rattle.work.specs.Parts.{storing, standing}
+use Rattle.work.specs.Entries.{Stored, left_of, moved, store_number, store_result, store_image}
+use Rattle.work.specs.Parts.{storing}
 use Rattle.table.specs.Coding.{coded_as, is_kind}
 use Rattle.table.proofs.ByKind.{no_kind}
 use Rattle.work.proofs.Shape.{left_position}
-use Rattle.work.proofs.Parts.{storing_of, standing_of, left_standing, number_storing, image_storing}
+use Rattle.work.proofs.Numbered.{allowed}
+use Rattle.work.proofs.Parts.{storing_of}
 use Rattle.flat.specs.Flat.{register_word, journey_word, node_word, secret_word, answer_word, inputs_word, work_size, low_of, high_of, long_at, position_of, bytes_at, work_of}
 use Rattle.flat.specs.Forms.{store_number_in, with_position, store_words, store_hand, store_image_in}
 use Rattle.flat.proofs.Back.{joined_back}
@@ -36,7 +36,7 @@ module _ (l : List ℕ) (h : length l ≡ work_size) (kind : Kind) (p n : ℕ) (
       storing kind p n (take register_words (drop register_word l)) (take register_words (drop journey_word l)) (take node_words (drop node_word l))
       (take register_words (drop secret_word l))
 
-  parts : parts_in ≡ storing_of (work_of l)
+  pub parts : parts_in ≡ storing_of (work_of l)
   unfolding work_of
   parts =
       rw (
@@ -48,20 +48,6 @@ module _ (l : List ℕ) (h : length l ≡ work_size) (kind : Kind) (p n : ℕ) (
         part_within node_words l node_word (omega arith),
         part_within register_words l secret_word (omega arith),
       )
-
-  -- of which the node's alone say what is left
-  standing_parts : standing kind p n (take node_words (drop node_word l)) ≡ standing_of (work_of l)
-  unfolding work_of
-  standing_parts = rw (a, b, c, part_within node_words l node_word (omega arith))
-
-  pub left_parts : left_of (standing kind p n (take node_words (drop node_word l))) ≡ left_of (work_of l)
-  left_parts = ap left_of standing_parts ∙ left_standing (work_of l)
-
-  pub number_parts : (image : List ℕ) → store_number parts_in image ≡ store_number (work_of l) image
-  number_parts image = ap (λ (w : Work). store_number w image) parts ∙ number_storing (work_of l) image
-
-  pub image_parts : (image : List ℕ) → store_image parts_in image ≡ store_image (work_of l) image
-  image_parts image = ap (λ (w : Work). store_image w image) parts ∙ image_storing (work_of l) image
 
 module _ (l : List ℕ) (h : length l ≡ work_size) (p : ℕ) where
   -- every word but the position's two
@@ -154,13 +140,7 @@ kept w image e = rw e
 
 -- a store that is made had one left
 made_left : (w : Work) (image : List ℕ) → eqb (store_number w image) 0 ≡ true → 0 < left_of w
-unfolding store_number
-made_left w image e = by (eqb (length image) image_words) (ltb 0 (left_of w)) refl e
-  where
-    by : (s t : Bool) → ltb 0 (left_of w) ≡ t → eqb (cond s (cond t 0 9) 1) 0 ≡ true → 0 < left_of w
-    by true true q r = ltb-true 0 (left_of w) q
-    by true false q r = let z : ◌≡◌ {A = ℕ} 9 0 = eqb-true 9 0 r in absurd (omega (arith, z))
-    by false t q r = let z : ◌≡◌ {A = ℕ} 1 0 = eqb-true 1 0 r in absurd (omega (arith, z))
+made_left w image e = (allowed w image (eqb-true (store_number w image) 0 e)).some
 
 module _ (l image : List ℕ) (h : length l ≡ work_size) where
   number_of_law : store_number_in l image ≡ (store_result (work_of l) image).number
@@ -211,10 +191,6 @@ module _ (l image : List ℕ) (h : length l ≡ work_size) (n : ℕ) (e : n ≡ 
 
   pub words_kept : (n ≡ 0 → ⊥) → l ≡ store_words l image
   words_kept g = sym (words_same l image h (λ z. g (number_in ∙ z)))
-
-  -- a store that is made had one left, so its position may move on
-  pub some_left : n ≡ 0 → 0 < left_of (work_of l)
-  some_left z = made_left (work_of l) image (eq-eqb (store_number (work_of l) image) 0 (sym e ∙ z))
 
   pub words_moved : n ≡ 0 → with_position l ((work_of l).position + 1) ≡ store_words l image
   words_moved z =

@@ -2,7 +2,7 @@
 #![tactic(auto)]
 
 ghost use Rattle.std.specs.Prelude.{◌≡◌, ◌+◌, ◌<◌, length};
-ghost use Rattle.work.specs.Entries.{store_number, store_image};
+ghost use Rattle.work.specs.Parts.{storing, lent_work};
 ghost use Rattle.work.specs.Recorded.{entry_result, entry_buffer};
 ghost use Rattle.flat.specs.Flat.{work_size, work_of, answering_of};
 ghost use Rattle.flat.specs.Forms.{left_in, store_number_in, with_position, store_words, store_hand, store_image_in, answer_number_in, answer_written, answer_buffer_in, entry_number_in, entry_written, entry_buffer_in};
@@ -13,12 +13,32 @@ use flat::words::{
     ANSWER_IN, JOURNEY_IN, NODE_IN, POSITION_HIGH_IN, POSITION_IN, REGISTER_IN, SECRET_IN,
     WRONG_WORK,
 };
-use journal_bytes::write::Taken;
+use layout::refusals::Refusal;
 use layout::{INPUT_BYTES, REGISTER_WORDS};
+use table::Prepared;
+use work::Work;
 use work::entry::take;
-use work::{Work, lent};
+use work::lent::Lent;
 
 mod reading;
+
+// The parts of the work that the words are, where they stand.
+fn lent(work: &[u32]) -> Lent<'_>
+    requires { length work.now ≡ work_size }
+    ensures { lent_work result ≡ storing (work_of work.now).kind (work_of work.now).position (work_of work.now).answer_len (work_of work.now).register (work_of work.now).journey (work_of work.now).node (work_of work.now).secret }
+{
+    Lent {
+        kind: kind_in(work),
+        position: position_in(work),
+        answer_len: answer_len_in(work),
+        words: Prepared {
+            register: &work[REGISTER_IN..JOURNEY_IN],
+            journey: &work[JOURNEY_IN..NODE_IN],
+            node: &work[NODE_IN..SECRET_IN],
+            secret: &work[SECRET_IN..ANSWER_IN],
+        },
+    }
+}
 
 // Stores left; of a buffer of another length 0.
 pub fn left(work: &[u32]) -> usize
@@ -27,30 +47,7 @@ pub fn left(work: &[u32]) -> usize
     if work.len() != WORK_WORDS {
         return 0;
     }
-    lent::left(
-        kind_in(work),
-        position_in(work),
-        answer_len_in(work),
-        &work[NODE_IN..SECRET_IN],
-    )
-}
-
-// One store of the work that the words are; the words stay.
-fn store_from(work: &[u32], image: &mut [u32]) -> u32
-    requires { length work.now ≡ work_size }
-    ensures value { result ≡ store_number (work_of work.now) image.old }
-    ensures image_after { image.new ≡ store_image (work_of work.now) image.old }
-{
-    lent::store(
-        kind_in(work),
-        position_in(work),
-        answer_len_in(work),
-        &work[REGISTER_IN..JOURNEY_IN],
-        &work[JOURNEY_IN..NODE_IN],
-        &work[NODE_IN..SECRET_IN],
-        &work[SECRET_IN..ANSWER_IN],
-        image,
-    )
+    lent(work).left()
 }
 
 // Moves the position on by one: only its two words change.
@@ -64,6 +61,8 @@ fn move_on(work: &mut [u32])
     work[POSITION_HIGH_IN] = (position / 4294967296) as u32;
 }
 
+// A number and not a Result, as in `answer` and `entry`: the C interface (`waggleloft_store`, `waggleloft_answer`,
+// `waggleloft_entry`) hands it on.
 // One store: of the words only the position's two change. Refused, with nothing stored and every word as it was: 28, a
 // buffer of another length; then as the entry.
 pub fn store(work: &mut [u32], image: &mut [u32]) -> u32
@@ -75,9 +74,8 @@ pub fn store(work: &mut [u32], image: &mut [u32]) -> u32
     if work.len() != WORK_WORDS {
         return WRONG_WORK;
     }
-    let number = store_from(work, image);
-    if number != 0 {
-        return number;
+    if let Err(refusal) = lent(work).store(image) {
+        return u32::from(refusal);
     }
     move_on(work);
     0
@@ -85,6 +83,7 @@ pub fn store(work: &mut [u32], image: &mut [u32]) -> u32
 
 // What an answer's taking asks of the words: of the prepared ones the node's alone, and no input.
 fn answering(work: &[u32]) -> Work
+    requires { length work.now ≡ work_size }
     ensures { result ≡ answering_of (work_of work.now) }
 {
     let kind = kind_in(work);
@@ -113,28 +112,22 @@ pub fn answer(work: &[u32], buffer: &mut [u8], written: &mut usize) -> u32
     if work.len() != WORK_WORDS {
         return WRONG_WORK;
     }
-    let w = answering(work);
-    let a = w.answer(buffer);
-    if a.number == 0 {
-        *written = a.written;
+    match answering(work).answer(buffer) {
+        Ok(n) => {
+            *written = n;
+            0
+        }
+        Err(refusal) => u32::from(refusal),
     }
-    a.number
 }
 
 // The journal entry of the work that the words are.
-fn entry_from(work: &[u32], buffer: &mut [u8]) -> Taken
+fn entry_from(work: &[u32], buffer: &mut [u8]) -> Result<usize, Refusal>
     requires { length work.now ≡ work_size }
     ensures value { result ≡ entry_result (work_of work.now) buffer.old }
     ensures buffer_after { buffer.new ≡ entry_buffer (work_of work.now) buffer.old }
 {
-    take(
-        kind_in(work),
-        position_in(work),
-        answer_len_in(work),
-        &work[NODE_IN..SECRET_IN],
-        inputs_in(work),
-        buffer,
-    )
+    take(&lent(work), inputs_in(work), buffer)
 }
 
 // The journal entry into the front of the buffer, and its length. Refused, with nothing written: 28, a work
@@ -147,9 +140,11 @@ pub fn entry(work: &[u32], buffer: &mut [u8], written: &mut usize) -> u32
     if work.len() != WORK_WORDS {
         return WRONG_WORK;
     }
-    let taken = entry_from(work, buffer);
-    if taken.number == 0 {
-        *written = taken.written;
+    match entry_from(work, buffer) {
+        Ok(length) => {
+            *written = length;
+            0
+        }
+        Err(refusal) => u32::from(refusal),
     }
-    taken.number
 }

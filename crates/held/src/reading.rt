@@ -3,11 +3,13 @@
 ghost use Rattle.std.specs.Prelude.{◌≡◌, ◌<◌, length};
 ghost use Rattle.flat.specs.Flat.{work_size, joined_of, long_at, position_of, bytes_at, work_of};
 
-use flat::words::{ANSWER_IN, FIRST_IN, INPUTS_IN, LENGTH_IN, NODE_IN, POSITION_IN, SECOND_IN};
+use flat::words::{
+    ANSWER_IN, FIRST_IN, INPUTS_IN, LENGTH_IN, NODE_IN, POSITION_IN, SECOND_IN, SECRET_IN,
+};
 use layout::{ANSWER_MAX, INPUT_BYTES, NODE_WORDS};
 use packing::{byte_of, word};
 use table::Kind;
-use table::coding::{Coded, decode, is_kind};
+use table::coding::{Coded, is_kind};
 
 fn joined(low: u32, high: u32) -> usize
     ensures { result ≡ joined_of low high }
@@ -36,7 +38,7 @@ fn position_of(number: u32, position: usize) -> usize
 pub(crate) fn kind_in(words: &[u32]) -> Kind
     ensures { result ≡ (work_of words.now).kind }
 {
-    decode(Coded {
+    Kind::from(Coded {
         number: word(words, 0),
         first: long_in(words, FIRST_IN),
         second: long_in(words, SECOND_IN),
@@ -56,14 +58,11 @@ pub(crate) fn answer_len_in(words: &[u32]) -> usize
 }
 
 pub(crate) fn node_in(words: &[u32]) -> [u32; NODE_WORDS]
+    requires { length words.now ≡ work_size }
     ensures { result ≡ (work_of words.now).node }
 {
     let mut out = [0u32; NODE_WORDS];
-    let mut k = 0;
-    while k < NODE_WORDS {
-        out[k] = word(words, NODE_IN + k);
-        k += 1;
-    }
+    out.copy_from_slice(&words[NODE_IN..SECRET_IN]);
     out
 }
 
@@ -72,12 +71,9 @@ fn unpack(words: &[u32], at: usize, out: &mut [u8])
     requires { at < work_size }
     ensures { out.new ≡ bytes_at (length out.old) words.now at }
 {
-    let n = out.len();
-    let mut k = 0;
-    while k < n {
+    for k in 0..out.len() {
         let w = word(words, at + k / 4);
         out[k] = byte_of(w, k % 4);
-        k += 1;
     }
 }
 

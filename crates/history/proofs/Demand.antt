@@ -9,9 +9,12 @@ use mathlib.Core.Option.{Option, none, some}
 use lib.Dec.{eqb, ltb}
 use borrow.Author.Tests.{eqb-true}
 use lib.ListN.{length, get_or, set, take, drop}
+use Rattle.std.specs.Prelude.{⊤, Result, Ok, Err}
 use Rattle.layout.specs.Sizes.{image_words, mark_at, attestation_at, secret_at, registers_at, nodes_at, register_count, register_words}
 use Rattle.layout.specs.Words.{words48, part}
 use Rattle.layout.specs.Refusals as number
+use Rattle.layout.specs.declared.refusals.Refusal.{Refusal}
+use Rattle.layout.specs.declared.refusals.Refusal.TheVariants as refusal
 use Rattle.layout.proofs.Cases.{and_right}
 use Rattle.table.specs.Table.{put, number_of, index_ok}
 use Rattle.work.specs.Entries.{put_of}
@@ -26,10 +29,7 @@ use Rattle.opening.specs.Tasks.{BootInputs, Task, cold_boot, Ruling, refused, ac
 use Rattle.opening.specs.Rules.{inputs_ok}
 use Rattle.opening.specs.Works.{work_at}
 use Rattle.opening.specs.Openings.{booted_of, open_cold_boot, open_request, open_update_boot, boot_number, stored_by, cold_booted}
-use Rattle.opening.specs.declared.Status.{Status}
-use Rattle.opening.specs.declared.Status.TheVariants as status
-use Rattle.opening.specs.declared.BootStatus.{BootStatus}
-use Rattle.opening.specs.declared.BootStatus.TheVariants as boot_status
+use Rattle.opening.specs.declared.Outcome.{Outcome}
 use Rattle.history.specs.Calls.{Call, request, update_boot, store, answer, entry, power_cut, refusal, stored, Hand, Machine, Step, after_request, after_boot, after_store, step, run, results}
 use Rattle.history.specs.Ledger.{Contents, Job, Ledger, blank, next, state_of, register_rows, node_rows, image_of, any, disables, is_disable_command, tears, view_of, let_go, ledger_request, ledger_boot, update_ruling, ledger_store, ledger_step, first_ledger}
 use Rattle.history.specs.Demand.{Shut, was_accepted, boot_ended, ends_boot, AsCounted, Kept, is_under_way, Holds, after_cold_boot, Demand3}
@@ -109,13 +109,13 @@ settled (going {p = p} {j = j} {k} base v g f w n q x y b) e =
 -- ---- torn and shut: for good
 
 -- an opening changes no word
-request_image : (m : Machine) (w : Work) (s : Status) → (after_request m w s).state.image ≡ m.image
-request_image m w status.Ready = refl
-request_image m w (status.Refused n) = refl
+request_image : (m : Machine) (w : Work) (s : Result ⊤ Refusal) → (after_request m w s).state.image ≡ m.image
+request_image m w (Ok u) = refl
+request_image m w (Err r) = refl
 
-boot_image : (m : Machine) (w : Work) (s : BootStatus) → (after_boot m w s).state.image ≡ m.image
-boot_image m w (boot_status.Ready o) = refl
-boot_image m w (boot_status.Refused n) = refl
+boot_image : (m : Machine) (w : Work) (s : Result Outcome Refusal) → (after_boot m w s).state.image ≡ m.image
+boot_image m w (Ok o) = refl
+boot_image m w (Err r) = refl
 
 shut_one : {l : List ℕ} {w : Option Hand} {h : List Task} {d : Option Job} {k : ℕ} {t u : Bool} → Inv l w h d k t u → t ≡ true → Shut l
     → Shut (after_store (record { image = l; hand = w }) w).state.image
@@ -220,8 +220,8 @@ cold_image_law before x e = go (eqb (length before) image_words) refl (inputs_ok
     -- the image's size, and the inputs
     go : (a : Bool) → eqb (length before) image_words ≡ a → (b : Bool)
         → boot_number
-        (booted_of before (cond (not a) (refused number.wrong_image) (cond (not b) (refused number.wrong_inputs) (accepted (cold_boot x) [])))).status ≡ 0
-        → (let o = booted_of before (cond (not a) (refused number.wrong_image) (cond (not b) (refused number.wrong_inputs) (accepted (cold_boot x) []))) in
+        (booted_of before (cond (not a) (refused refusal.WrongImage) (cond (not b) (refused refusal.WrongInputs) (accepted (cold_boot x) [])))).status ≡ 0
+        → (let o = booted_of before (cond (not a) (refused refusal.WrongImage) (cond (not b) (refused refusal.WrongInputs) (accepted (cold_boot x) []))) in
         stored_by before o.work o.status ≡ image_of 1 1 (next blank (cold_boot x)))
     go true p true q = image (eqb-true (length before) image_words p)
     go true p false q = absurd (omega arith)

@@ -13,7 +13,7 @@ use borrow.Author.Tests.{lt-ltb, eqb-true}
 use Rattle.layout.proofs.Cases.{and_left, and_right}
 use lib.ListN.{length, get_or}
 use Rattle.layout.specs.Sizes.{node_count, image_words, mark_at, attestation_at, answer_max}
-use Rattle.layout.specs.Refusals.{unfinished, unknown_code, wrong_length, bad_checksum}
+use Rattle.layout.specs.declared.refusals.Refusal.TheVariants as refusal
 use Rattle.tree.specs.Tree.{Tree, well_formed}
 use Rattle.tree.specs.Nodes.{tree_in}
 use Rattle.table.specs.Table.{number_of, index_ok}
@@ -191,17 +191,17 @@ off_rules v w r p a b =
 
     -- all rules, from the command's own
     all : Command → View → Ruling
-    all c v = ruled (refuses unfinished (not v.done) ∷ refuses unknown_code (not c.known) ∷ command_rules c v r) c r
+    all c v = ruled (refuses refusal.Unfinished (not v.done) ∷ refuses refusal.UnknownCode (not c.known) ∷ command_rules c v r) c r
 
     by_command : (c : Command) → ruled (c.rules (off v.nodes) r) c r ≡ ruled (c.rules (off w.nodes) r) c r
         → all c (off v.nodes) ≡ all c (off w.nodes)
     by_command c e =
-        ap (λ (x : Ruling). cond (not w.done) (refused unfinished)
-        (cond (not c.known) (refused unknown_code)
-        (cond (not (c.length_ok r.bytes)) (refused wrong_length) (cond (wrong_checksum r.code r.bytes) (refused bad_checksum) x)))) e
+        ap (λ (x : Ruling). cond (not w.done) (refused refusal.Unfinished)
+        (cond (not c.known) (refused refusal.UnknownCode)
+        (cond (not (c.length_ok r.bytes)) (refused refusal.WrongLength) (cond (wrong_checksum r.code r.bytes) (refused refusal.BadChecksum) x)))) e
 
 -- an unfinished mark refuses every request
-unfinished_rules : (v : View) (r : Request) → v.done ≡ false → ruling v r ≡ refused unfinished
+unfinished_rules : (v : View) (r : Request) → v.done ≡ false → ruling v r ≡ refused refusal.Unfinished
 unfolding ruling
 unfinished_rules v r e = rw e
 

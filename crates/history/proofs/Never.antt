@@ -10,7 +10,9 @@ use mathlib.Core.Option.{Option, none, some}
 use lib.Dec.{ltb}
 use lib.ListN.{length, drop}
 use Rattle.layout.specs.Sizes.{node_count}
-use Rattle.layout.specs.Refusals.{wrong_inputs, stores_left, short_buffer, short_entry, not_well_formed}
+use Rattle.layout.specs.Numbers.{refusal_number}
+use Rattle.layout.specs.declared.refusals.Refusal.TheVariants as refusal
+use Rattle.layout.specs.Refusals.{stores_left, short_buffer, short_entry, not_well_formed}
 use Rattle.tree.specs.Tree.{well_formed}
 use Rattle.opening.specs.Tasks.{Request, BootInputs, Task, Ruling, refused, accepted, View}
 use Rattle.opening.specs.Rules.{Verdict, refuse, decline, Rule, judged, Command, command_of, declined, ruled, request_rules, inputs_ok, update_task}
@@ -28,7 +30,7 @@ use Rattle.history.proofs.Sim.{Related, sim, sim_run, release, rule_torn}
 use Rattle.history.proofs.Demand.{cold_start, store_cases}
 
 abbrev NotRefused11 : Ruling → Type 0
-NotRefused11 (refused n) = n ≢ not_well_formed
+NotRefused11 (refused r) = refusal_number r ≢ not_well_formed
 NotRefused11 (accepted t a) = Unit {0}
 
 no_11 : (rs : List Rule) (c : Command) (r : Request) → No11 rs → NotRefused11 (ruled rs c r)
@@ -96,7 +98,7 @@ entry_result_law none k a e = omega arith
 entry_result_law (some j) k a e = go (ltb k j.stores) (journal_bytes (entry_for j.task)) (ltb (length a) (length (journal_bytes (entry_for j.task)))) e
   where
     go : (x : Bool) (l : List ℕ) (y : Bool)
-        → refusal_of (cond x (recorded stores_left 0 a) (cond y (recorded short_entry 0 a) (recorded 0 (length l) (l ++ drop (length l) a)))) ≡ not_well_formed
+        → refusal_of (cond x (recorded stores_left 0 a) (cond y (recorded (refusal_number short_entry) 0 a) (recorded 0 (length l) (l ++ drop (length l) a)))) ≡ not_well_formed
         → ⊥
     go true l y e = omega arith
     go false l true e = omega arith
@@ -109,7 +111,7 @@ ledger_result m b (request r) i =
 ledger_result m b (update_boot x v) i =
     boot_result b (update_ruling b x v) (boot_rules_law (inputs_ok x))
   where
-    boot_rules_law : (y : Bool) → NotRefused11 (cond (not y) (refused wrong_inputs) (accepted (update_task (not (is_off (let_go b).history (let_go b).torn)) v x) []))
+    boot_rules_law : (y : Bool) → NotRefused11 (cond (not y) (refused refusal.WrongInputs) (accepted (update_task (not (is_off (let_go b).history (let_go b).torn)) v x) []))
     boot_rules_law true = tt
     boot_rules_law false = λ z. omega arith
 ledger_result m b store i = store_result_law b b.hand

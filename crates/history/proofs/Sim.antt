@@ -16,17 +16,21 @@ use lib.Seq.{take_all, take-append_seam, paste}
 use Rattle.layout.specs.Sizes.{image_words, mark_at, answer_max}
 use Rattle.layout.specs.Words.{zeros}
 use Rattle.layout.specs.Refusals as number
+use Rattle.layout.specs.declared.refusals.Refusal.TheVariants as refusal
 use Rattle.table.specs.Table.{put, number_of, index_ok}
 use Rattle.work.specs.Entries.{runs_of, put_of}
-use Rattle.work.specs.Entries.{well_shaped, finished, left_of, moved, answer_number, answer_result, answer_buffer}
-use Rattle.work.specs.Recorded.{entries_of, entry_number, entry_result, entry_buffer}
+use Rattle.layout.specs.Numbers.{told_number}
+use Rattle.layout.specs.declared.refusals.Refusal.TheVariants.{ShortBuffer}
+use Rattle.work.specs.Entries.{Stored, well_shaped, finished, left_of, moved, answer_given, answer_number, answer_result, answer_buffer}
+use Rattle.work.specs.Recorded.{taking_bytes, entries_of, entry_number, entry_result, entry_buffer}
 use Rattle.journal.specs.Entries.{Entry, journal_bytes}
-use Rattle.journal_bytes.specs.Results.{taken_number, taken_buffer}
+use Rattle.std.proofs.Common.{Ok, Err}
+use Rattle.layout.specs.Numbers.{refusal_number}
+use Rattle.journal_bytes.specs.Results.{taken_number, taken_result, taken_buffer}
 use Rattle.opening.specs.Recorded.{entry_for}
 use Rattle.making.specs.Made.{work_with}
 use Rattle.table.specs.declared.Put.{Put}
 use Rattle.work.specs.declared.Work.{Work}
-use Rattle.work.specs.declared.Stored.{Stored}
 use Rattle.work.proofs.Plans.{apply, length_apply, plan, put_plan, one_more, mark_mid}
 use Rattle.making.proofs.After.{store_made, store_refused}
 use Rattle.opening.specs.Tasks.{Request, BootInputs, Task, Ruling, refused, accepted}
@@ -77,22 +81,24 @@ module _ (w : Work) (j : Job) (k : ℕ) (c : Carried w j k) (h : k ≤ j.stores)
 
   -- the answer that is taken
   carried_early : k < j.stores → (b : List ℕ) → answer_taken (some (record { work = w; boot = true })) b ≡ answered number.stores_left 0 b
-  unfolding answer_result answer_buffer answer_number finished
+  unfolding answer_result answer_buffer answer_number answer_given finished
   carried_early l b = rw (shaped, ne_eqb w.position (number_of w.kind) (λ e. omega (arith, c.number, c.position)))
 
   carried_late : k ≡ j.stores → (b : List ℕ)
       → answer_taken (some (record { work = w; boot = true })) b
       ≡ cond (ltb (length b) (length j.answer)) (answered number.short_buffer 0 b)
       (answered 0 (length j.answer) (j.answer ++ drop (length j.answer) b))
-  unfolding answer_result answer_buffer answer_number finished
+  unfolding answer_result answer_buffer answer_number answer_given finished
   carried_late e b =
       rw (shaped, eq-eqb w.position (number_of w.kind) (omega (arith, c.number, c.position)))
       (ap (λ (n : ℕ). taken (ltb (length b) n)) c.long ∙ by_test (ltb (length b) (length j.answer)))
     where
+      code : Bool → ℕ
+      code x = told_number (cond x (Err ShortBuffer) (Ok w.answer_len))
+
       taken : Bool → Result
       taken x =
-          answered (cond x number.short_buffer 0) (cond (eqb (cond x number.short_buffer 0) 0) w.answer_len 0)
-          (cond (eqb (cond x number.short_buffer 0) 0) (paste b 0 w.answer w.answer_len) b)
+          answered (code x) (cond (eqb (code x) 0) w.answer_len 0) (cond (eqb (code x) 0) (paste b 0 w.answer w.answer_len) b)
 
       by_test : (x : Bool) → taken x ≡ cond x (answered number.short_buffer 0 b) (answered 0 (length j.answer) (j.answer ++ drop (length j.answer) b))
       by_test true = refl
@@ -113,9 +119,9 @@ module _ (w : Work) (j : Job) (k : ℕ) (c : Carried w j k) (h : k ≤ j.stores)
 
   entry_late : k ≡ j.stores → (b : List ℕ)
       → entry_taken (some (record { work = w; boot = true })) b
-      ≡ cond (ltb (length b) (length (journal_bytes (entry_for j.task)))) (recorded number.short_entry 0 b)
+      ≡ cond (ltb (length b) (length (journal_bytes (entry_for j.task)))) (recorded (refusal_number number.short_entry) 0 b)
       (recorded 0 (length (journal_bytes (entry_for j.task))) (journal_bytes (entry_for j.task) ++ drop (length (journal_bytes (entry_for j.task))) b))
-  unfolding entry_result entry_buffer entry_number finished taken_number taken_buffer
+  unfolding entry_result entry_buffer entry_number finished taken_number taken_result taken_buffer
   entry_late e b =
       rw (shaped, eq-eqb w.position (number_of w.kind) (omega (arith, c.number, c.position)))
       (ap (λ (es : List Entry). taken (journal_bytes es) (ltb (length b) (length (journal_bytes es)))) c.entries
@@ -123,11 +129,13 @@ module _ (w : Work) (j : Job) (k : ℕ) (c : Carried w j k) (h : k ≤ j.stores)
     where
       taken : List ℕ → Bool → Result
       taken l x =
-          recorded (cond x number.short_entry 0) (cond (eqb (cond x number.short_entry 0) 0) (length l) 0)
-          (cond (eqb (cond x number.short_entry 0) 0) (cond (eqb (cond (ltb (length b) (length l)) number.short_entry 0) 0) (l ++ drop (length l) b) b) b)
+          let n = refusal_number number.short_entry in
+          let r = cond (eqb (cond x n 0) 0) (Ok (length l)) (Err number.short_entry) in
+          recorded (told_number r) (taking_bytes r)
+          (cond (eqb (cond x n 0) 0) (cond (eqb (cond (ltb (length b) (length l)) n 0) 0) (l ++ drop (length l) b) b) b)
 
       by_test : (l : List ℕ) (x : Bool) → ltb (length b) (length l) ≡ x
-          → taken l x ≡ cond x (recorded number.short_entry 0 b) (recorded 0 (length l) (l ++ drop (length l) b))
+          → taken l x ≡ cond x (recorded (refusal_number number.short_entry) 0 b) (recorded 0 (length l) (l ++ drop (length l) b))
       by_test l true q = refl
       by_test l false q = rw q
 
@@ -312,7 +320,7 @@ module _ (m : Machine) (b : Ledger) (i : Related m b) where
       now : Ruling
       now = ruling (view_of b.history b.torn b.unfinished) r
 
-      same : cond (not (eqb (length m.image) image_words)) (refused number.wrong_image) (ruling (view_in m.image) r) ≡ now
+      same : cond (not (eqb (length m.image) image_words)) (refused refusal.WrongImage) (ruling (view_in m.image) r) ≡ now
       same = rw (ground_length ground) (rule_same ground r ∙ rule_torn i r)
 
   -- ---- an update boot
@@ -323,10 +331,10 @@ module _ (m : Machine) (b : Ledger) (i : Related m b) where
       subst (λ (R : Ruling). Together (after_boot m (booted_of m.image R).work (booted_of m.image R).status) (ledger_boot b (update_ruling b x v)))
       (sym same)
       (after_boot_law (update_ruling b x v)
-      (decided (FitsRuling b.history gone b.unfinished true) (boot_rules x) refused _ (λ n. tt) (λ n. tt)
+      (decided (FitsRuling b.history gone b.unfinished true) (boot_rules x) (λ n. refused refusal.WrongInputs) _ (λ n. tt) (λ n. tt)
       (λ n. fits_boot b.history gone b.unfinished v x (negated (inputs_ok x) n.0))))
     where
-      same : cond (not (eqb (length m.image) image_words)) (refused number.wrong_image) (boot_ruling (boot_rules x) (update_task (intact m.image) v x))
+      same : cond (not (eqb (length m.image) image_words)) (refused refusal.WrongImage) (boot_ruling (boot_rules x) (update_task (intact m.image) v x))
           ≡ update_ruling b x v
       same =
           rw (ground_length ground)

@@ -1,17 +1,17 @@
 -- Calls and power cuts, and the machine that makes them on an image and the work in hand, by the very definitions that the entries' contracts cite
 -- (document 01, "The book"). Assumes nothing.
-use Rattle.std.specs.Prelude.{ℕ, Bool, true, false, cond, List, [], ◌∷◌, eqb, take}
+use Rattle.std.specs.Prelude.{ℕ, Bool, true, false, cond, List, [], ◌∷◌, eqb, take, ⊤, Ok, Err}
+use Rattle.std.specs.Prelude as std
 use Rattle.std.proofs.Math.Option.{Option, none, some}
+use Rattle.layout.specs.Numbers.{refusal_number, told_number}
+use Rattle.layout.specs.declared.refusals.Refusal.{Refusal}
 use Rattle.work.specs.Entries.{left_of, store_result, store_image, answer_result, answer_buffer}
-use Rattle.work.specs.Recorded.{entry_result, entry_buffer}
+use Rattle.work.specs.Recorded.{taking_bytes, entry_result, entry_buffer}
 use Rattle.table.specs.declared.Kind.{Kind}
 use Rattle.work.specs.declared.Work.{Work}
 use Rattle.opening.specs.Tasks.{Request, BootInputs}
 use Rattle.opening.specs.Openings.{open_request, open_cold_boot, open_update_boot, outcome_number}
-use Rattle.opening.specs.declared.Status.{Status}
-use Rattle.opening.specs.declared.Status.TheVariants as status
-use Rattle.opening.specs.declared.BootStatus.{BootStatus}
-use Rattle.opening.specs.declared.BootStatus.TheVariants as boot_status
+use Rattle.opening.specs.declared.Outcome.{Outcome}
 
 -- what a list of demand 3 has: an opening of a request or an update boot, a store, an answer or a journal entry (document 02, §3) into a buffer, a power
 -- cut; "no cold boot follows"
@@ -64,13 +64,13 @@ abbrev pub with_hand : Machine → Work → Bool → Machine
 with_hand m w b = record { image = m.image; hand = some (record { work = w; boot = b }) }
 
 -- "An accepted opening's work becomes the one in hand"; a refused one changes nothing
-abbrev pub after_request : Machine → Work → Status → Step Machine
-after_request m w status.Ready = record { state = with_hand m w false; result = opened w.kind (left_of w) (take w.answer_len w.answer) }
-after_request m w (status.Refused n) = record { state = m; result = refusal n }
+abbrev pub after_request : Machine → Work → std.Result ⊤ Refusal → Step Machine
+after_request m w (Ok u) = record { state = with_hand m w false; result = opened w.kind (left_of w) (take w.answer_len w.answer) }
+after_request m w (Err r) = record { state = m; result = refusal (refusal_number r) }
 
-abbrev pub after_boot : Machine → Work → BootStatus → Step Machine
-after_boot m w (boot_status.Ready o) = record { state = with_hand m w true; result = booted (outcome_number o) w.kind (left_of w) }
-after_boot m w (boot_status.Refused n) = record { state = m; result = refusal n }
+abbrev pub after_boot : Machine → Work → std.Result Outcome Refusal → Step Machine
+after_boot m w (Ok o) = record { state = with_hand m w true; result = booted (outcome_number o) w.kind (left_of w) }
+after_boot m w (Err r) = record { state = m; result = refusal (refusal_number r) }
 
 -- "With none in hand a store does nothing."
 abbrev pub after_store : Machine → Option Hand → Step Machine
@@ -90,7 +90,7 @@ answer_taken (some h) buffer = let r = answer_result h.work buffer in answered r
 -- a journal entry is "taken as its answer is"
 abbrev pub entry_taken : Option Hand → List ℕ → Result
 entry_taken none buffer = no_work
-entry_taken (some h) buffer = let r = entry_result h.work buffer in recorded r.number r.written (entry_buffer h.work buffer)
+entry_taken (some h) buffer = let r = entry_result h.work buffer in recorded (told_number r) (taking_bytes r) (entry_buffer h.work buffer)
 
 -- one call. A power cut leaves the image as it is, each store being whole, and "the work in hand goes"
 unfoldable pub step : Machine → Call → Step Machine

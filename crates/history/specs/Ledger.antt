@@ -6,7 +6,8 @@ use Rattle.std.proofs.Math.Option.{Option, none, some}
 use Rattle.layout.specs.Sizes.{node_count, register_count, current_register, journey_register, stash_register}
 use Rattle.layout.specs.Words.{words48, zeros, flat}
 use Rattle.layout.specs.Below.{count_below}
-use Rattle.layout.specs.Refusals as number
+use Rattle.layout.specs.Numbers.{refusal_number}
+use Rattle.layout.specs.declared.refusals.Refusal.TheVariants.{NoStoreLeft, StoresLeft, ShortBuffer, ShortEntry}
 use Rattle.sha384.specs.Entries.{extended}
 use Rattle.tree.specs.Tree.{Tree, default_words, retired_words, has_handle, is_root, root_in, node_with, lowest_free, childless}
 use Rattle.nodes.specs.Record.{Node, retired_handle, place_row, with_handle, with_current, with_cumulative, tree_of}
@@ -213,13 +214,13 @@ abbrev pub take_up : Ledger → Job → Ledger
 take_up b j = record { history = b.history; hand = some j; made = 0; torn = b.torn; unfinished = b.unfinished }
 
 abbrev pub ledger_request : Ledger → Ruling → Step Ledger
-ledger_request b (refused n) = record { state = b; result = refusal n }
+ledger_request b (refused r) = record { state = b; result = refusal (refusal_number r) }
 ledger_request b (accepted t a) =
     let j = job_at (chain_of b) t a in
     record { state = take_up (let_go b) j; result = opened (kind_at (chain_of b) t) j.stores a }
 
 abbrev pub ledger_boot : Ledger → Ruling → Step Ledger
-ledger_boot b (refused n) = record { state = b; result = refusal n }
+ledger_boot b (refused r) = record { state = b; result = refusal (refusal_number r) }
 ledger_boot b (accepted t a) =
     let j = job_at (chain_of b) t a in
     record {
@@ -245,14 +246,14 @@ ledger_store b (some j) =
       state = record { history = b.history; hand = some j; made = suc b.made; torn = b.torn; unfinished = true };
       result = stored (j.stores - suc b.made);
     }))
-    (record { state = b; result = refusal number.no_store_left })
+    (record { state = b; result = refusal (refusal_number NoStoreLeft) })
 
 -- "The answer may be taken only after the last store": 7, or 8 where the buffer is too short, or the answer at its front
 abbrev pub ledger_answer : Option Job → ℕ → List ℕ → Result
 ledger_answer none made buffer = no_work
 ledger_answer (some j) made buffer =
-    cond (ltb made j.stores) (answered number.stores_left 0 buffer)
-    (cond (ltb (length buffer) (length j.answer)) (answered number.short_buffer 0 buffer)
+    cond (ltb made j.stores) (answered (refusal_number StoresLeft) 0 buffer)
+    (cond (ltb (length buffer) (length j.answer)) (answered (refusal_number ShortBuffer) 0 buffer)
     (answered 0 (length j.answer) (j.answer ++ drop (length j.answer) buffer)))
 
 -- a journal entry is "taken as its answer is": 7, or 23 where the buffer is too short, or the task's entry at its front; "no stores, no bytes"
@@ -260,8 +261,8 @@ abbrev pub ledger_entry : Option Job → ℕ → List ℕ → Result
 ledger_entry none made buffer = no_work
 ledger_entry (some j) made buffer =
     let bytes = journal_bytes (entry_for j.task) in
-    cond (ltb made j.stores) (recorded number.stores_left 0 buffer)
-    (cond (ltb (length buffer) (length bytes)) (recorded number.short_entry 0 buffer)
+    cond (ltb made j.stores) (recorded (refusal_number StoresLeft) 0 buffer)
+    (cond (ltb (length buffer) (length bytes)) (recorded (refusal_number ShortEntry) 0 buffer)
     (recorded 0 (length bytes) (bytes ++ drop (length bytes) buffer)))
 
 -- one call; "Refused calls change nothing."

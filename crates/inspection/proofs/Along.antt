@@ -2,24 +2,25 @@
 use mathlib.Core.Path.{◌≡◌, refl, sym, ap, ◌∙◌, subst}
 use Prim.Native.Nat.{ℕ, zero, suc, ◌+◌, ◌<◌}
 use native.Mathlib.Omega.{arith}
-use native.Mathlib.Decide.{ℕ_discrete}
 use mathlib.Core.Logic.{inl, inr}
 use mathlib.Core.Bool.{Bool, true, false, true≢false}
 use mathlib.Core.List.{List, [], ◌∷◌, ◌++◌, append_assoc, append-nil}
-use mathlib.Core.Option.{Option, none, some}
+use mathlib.Core.Option.{Option}
 use lib.ListN.{length, set, take, length-append, length-set}
 use lib.Seq.{length-take-le}
-use borrow.Author.Tests.{eq-eqb, ne_eqb, le-leb, lt-leb}
+use borrow.Author.Tests.{le-leb, lt-leb}
+use Rattle.std.proofs.Common.{Some, None}
+use Rattle.layout.specs.declared.refusals.Refusal.{Refusal}
 use Rattle.layout.specs.Refusals.{cut_entry, uncounted}
-use Rattle.journal.specs.Read.{Read, refused, got, map_read}
-use Rattle.journal.specs.Fields.{Values, read_fields}
-use Rattle.journal.specs.Entries.{Entry, Form, form_at, fields_of, entry_of, entry_bytes, read_form, read_entry, longest}
+use Rattle.journal.specs.Read.{Read, refused, got}
+use Rattle.journal.specs.Entries.{Entry, entry_bytes, read_entry, longest}
 use Rattle.journal.specs.Journal.{Walked, stopped, walk}
 use Rattle.journal.specs.Statements.{Bytes, Takes}
+use Rattle.journal.proofs.Refusals.{cut_or_not}
 use Rattle.journal.proofs.Says.{Says}
 use Rattle.journal.proofs.Bytes.{bytes_rest}
 use Rattle.journal.proofs.Entries.{read_entry_law, EntryIs, entry_says}
-use Rattle.journal.proofs.Behind.{entry_takes, Leaves, fields_leave}
+use Rattle.journal.proofs.Behind.{entry_takes}
 use Rattle.journal.proofs.Journal.{piece_got, piece_uncounted, piece_refused}
 use Rattle.replaying.specs.Replay.{Replay, fresh, countable, counted, count}
 use Rattle.replaying.specs.Report.{journal_max}
@@ -27,6 +28,7 @@ use Rattle.recount.specs.OnImage.{made_on}
 use Rattle.recount.proofs.Shown.{shown, Reach}
 use Rattle.recount.proofs.Counting.{recount_made, recount_none}
 use Rattle.inspection.specs.declared.reader.Reader.{Reader}
+use Rattle.inspection.proofs.Reading.{read_other}
 use Rattle.inspection.specs.Stages.{Stage, refused_with, waiting_with, counted_with, read_with, so_far, journal_byte}
 
 -- one byte more behind those that wait
@@ -49,15 +51,16 @@ Walks j f = (m : List ℕ) → walk count 0 fresh (j ++ m) ≡ f m
 
 -- a refusal that stays
 pub record Stopped (j : List ℕ) (r : Reader) : Type 0 where
-  pub some_number : r.number ≡ 0 → ⊥
-  pub walks : Walks j (λ m. stopped r.number r.offset)
+  pub refusal : Refusal
+  pub kept : r.refusal ≡ Some refusal
+  pub walks : Walks j (λ m. stopped refusal r.offset)
 
 -- or entries that count, and the bytes of one that is not whole
 pub record Going (j : List ℕ) (r : Reader) (scratch : List ℕ) : Type 0 where
   pub state : Replay
   pub reach : Reach state
   pub image : scratch ≡ shown state
-  pub no_number : r.number ≡ 0
+  pub no_refusal : r.refusal ≡ None
   pub room : length r.waiting ≡ longest
   pub few : r.held < longest
   pub cut : read_entry (take r.held r.waiting) ≡ refused cut_entry
@@ -71,24 +74,6 @@ pub data Along (j : List ℕ) (x : Stage) : Type 0 where
   goes : Going j x.reader x.scratch → Along j x
 
 -- ---- one byte more of an entry
-
--- no refusal has the number 0
-abbrev NonZero : {A : Type 0} → Read A → Type 0
-NonZero (refused n) = n ≡ 0 → ⊥
-NonZero (got v rest) = Unit {0}
-
-entry_nonzero : (l : List ℕ) → NonZero (read_entry l)
-unfolding read_entry
-entry_nonzero [] = λ e. omega arith
-entry_nonzero (k ∷ l) = form (form_at k)
-  where
-    fields : (f : Form) (x : Read (Values (fields_of f))) → Leaves l x → NonZero (map_read (entry_of f) x)
-    fields f (refused n) h = elim h [ inl e ↦ λ z. omega arith | inr e ↦ λ z. omega arith ]
-    fields f (got v rest) h = tt
-
-    form : (o : Option Form) → NonZero (read_form o l)
-    form none = λ e. omega arith
-    form (some f) = fields f (read_fields (fields_of f) l) (fields_leave (fields_of f) l)
 
 -- the front of a list whose last element goes
 front_of : (a : List ℕ) (r : ℕ) (rs w : List ℕ) (b : ℕ) → a ++ (r ∷ rs) ≡ w ++ (b ∷ []) → (m : List ℕ) × (w ≡ a ++ m)
@@ -154,7 +139,7 @@ module _ (j : List ℕ) (b : ℕ) (x : Stage) (g : Going j x.reader x.scratch) (
         state = g.state;
         reach = g.reach;
         image = g.image;
-        no_number = refl;
+        no_refusal = refl;
         room = length-set x.reader.waiting x.reader.held b ∙ g.room;
         few = few_now (rw e at (entry_takes (w ++ (b ∷ []))));
         cut = ap read_entry so_far_law ∙ e;
@@ -168,8 +153,8 @@ module _ (j : List ℕ) (b : ℕ) (x : Stage) (g : Going j x.reader x.scratch) (
       few_now t = omega (arith, t refl, length-append w (b ∷ []), long)
 
   -- it is refused
-  stops : (n : ℕ) → (n ≡ 0 → ⊥) → Walks (j ++ (b ∷ [])) (λ m. stopped n x.reader.offset) → Along (j ++ (b ∷ [])) (refused_with x n)
-  stops n z t = stays (record { some_number = z; walks = t })
+  stops : (n : Refusal) → Walks (j ++ (b ∷ [])) (λ m. stopped n x.reader.offset) → Along (j ++ (b ∷ [])) (refused_with x n)
+  stops n t = stays (record { refusal = n; kept = refl; walks = t })
 
   -- it is whole
   whole : (e : Entry) (rest : List ℕ) → read_entry (w ++ (b ∷ [])) ≡ got e rest → EntryIs (w ++ (b ∷ [])) e rest
@@ -188,7 +173,7 @@ module _ (j : List ℕ) (b : ℕ) (x : Stage) (g : Going j x.reader x.scratch) (
             state = counted g.state e;
             reach = made.1;
             image = refl;
-            no_number = refl;
+            no_refusal = refl;
             room = length-set x.reader.waiting x.reader.held b ∙ g.room;
             few = omega arith;
             cut = unfold read_entry in refl;
@@ -202,34 +187,33 @@ module _ (j : List ℕ) (b : ℕ) (x : Stage) (g : Going j x.reader x.scratch) (
       by_count false c =
           subst (λ (o : Option (List ℕ)). Along (j ++ (b ∷ [])) (counted_with x b o))
           (sym (ap (λ (l : List ℕ). made_on l e) g.image ∙ recount_none g.state g.reach e is.1 c))
-          (stops uncounted (λ z. omega arith)
-          (λ m. walks_more m ∙ piece_uncounted count x.reader.offset g.state (w ++ (b ∷ [])) m e [] read (unfold count in rw c)))
+          (stops uncounted (λ m. walks_more m ∙ piece_uncounted count x.reader.offset g.state (w ++ (b ∷ [])) m e [] read (unfold count in rw c)))
 
-  by_read : (R : Read Entry) → read_entry (w ++ (b ∷ [])) ≡ R → NonZero R → Says (EntryIs (w ++ (b ∷ []))) R → Along (j ++ (b ∷ [])) (read_with x b R)
-  by_read (refused n) e z says = elim (ℕ_discrete n cut_entry) [
-    | yes q ↦ rw (eq-eqb n cut_entry q) (waits (e ∙ ap refused q))
-    | no q ↦ rw (ne_eqb n cut_entry q)
-        (stops n z (λ m. walks_more m ∙ piece_refused count x.reader.offset g.state (w ++ (b ∷ [])) m n some_byte e q))
+  by_read : (R : Read Entry) → read_entry (w ++ (b ∷ [])) ≡ R → Says (EntryIs (w ++ (b ∷ []))) R → Along (j ++ (b ∷ [])) (read_with x b R)
+  by_read (refused n) e says = elim (cut_or_not n) [
+    | inl q ↦ rw q (waits (e ∙ ap refused q))
+    | inr q ↦ rw (read_other x b n q)
+        (stops n (λ m. walks_more m ∙ piece_refused count x.reader.offset g.state (w ++ (b ∷ [])) m n some_byte e q))
   ]
-  by_read (got e rest) q z says = whole e rest q says
+  by_read (got e rest) q says = whole e rest q says
 
   pub goes_on : length j < journal_max → Along (j ++ (b ∷ [])) (journal_byte x b)
   unfolding journal_byte
   goes_on h =
       rw (
-        eq-eqb x.reader.number 0 g.no_number,
+        g.no_refusal,
         lt-leb longest x.reader.held g.few,
         lt-leb journal_max (x.reader.offset + x.reader.held) (omega (arith, g.there, ap length g.split, length-append g.before w, long)),
         so_far_law,
-      ) (by_read (read_entry (w ++ (b ∷ []))) refl (entry_nonzero (w ++ (b ∷ []))) (entry_says (w ++ (b ∷ [])) bytes))
+      ) (by_read (read_entry (w ++ (b ∷ []))) refl (entry_says (w ++ (b ∷ [])) bytes))
 
 -- past the journal's first bytes nothing is read
 pub full : (j : List ℕ) (b : ℕ) (x : Stage) → length j ≡ journal_max → Along j x → journal_byte x b ≡ x
 unfolding journal_byte
-full j b x h (stays t) = rw (ne_eqb x.reader.number 0 t.some_number)
+full j b x h (stays t) = rw t.kept refl
 full j b x h (goes g) =
     rw (
-      eq-eqb x.reader.number 0 g.no_number,
+      g.no_refusal,
       lt-leb longest x.reader.held g.few,
       le-leb journal_max (x.reader.offset + x.reader.held)
           (omega (arith, g.there, ap length g.split, length-append g.before (take x.reader.held x.reader.waiting), length-take-le x.reader.held x.reader.waiting (omega (arith, g.few, g.room)))),
@@ -238,6 +222,6 @@ full j b x h (goes g) =
 pub one_more : (j : List ℕ) (b : ℕ) (x : Stage) → Bytes (j ++ (b ∷ [])) → length j < journal_max → Along j x → Along (j ++ (b ∷ [])) (journal_byte x b)
 unfolding journal_byte
 one_more j b x s h (stays t) =
-    rw (ne_eqb x.reader.number 0 t.some_number)
-    (stays (record { some_number = t.some_number; walks = λ m. ap (walk count 0 fresh) (append_assoc j (b ∷ []) m) ∙ t.walks (b ∷ m) }))
+    rw t.kept
+    (stays (record { refusal = t.refusal; kept = refl; walks = λ m. ap (walk count 0 fresh) (append_assoc j (b ∷ []) m) ∙ t.walks (b ∷ m) }))
 one_more j b x s h (goes g) = goes_on j b x g s h

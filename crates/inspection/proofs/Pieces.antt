@@ -15,6 +15,10 @@ use Rattle.layout.specs.Refusals.{cut_entry}
 use Rattle.layout.proofs.Tab.{length_zeros}
 use mathlib.Core.Option.{Option, none, some}
 use Rattle.journal.specs.Entries.{Entry, read_entry, longest}
+use Rattle.std.proofs.Common.{None}
+use Rattle.std.specs.Option.{is_some}
+use Rattle.layout.specs.declared.refusals.Refusal.TheVariants.{CutEntry}
+use Rattle.layout.specs.Numbers.{refusal_number}
 use Rattle.journal.specs.Read.{Read, refused, got}
 use Rattle.journal.proofs.Entries.{entry_none}
 use Rattle.journal.specs.Journal.{walk}
@@ -25,7 +29,8 @@ use Rattle.replaying.specs.Replay.{fresh, count, replay}
 use Rattle.replaying.specs.Report.{image_bytes, journal_max, report, output}
 use Rattle.recount.proofs.Shown.{unbooted}
 use Rattle.recount.specs.OnImage.{made_on}
-use Rattle.inspection.specs.Stages.{Stage, reader_of, stage_of, begun, with_saved, refused_with, waiting_with, counted_with, read_with, so_far, journal_byte, one_byte, fed_with, verdict_at, told}
+use Rattle.inspection.proofs.Reading.{told_none}
+use Rattle.inspection.specs.Stages.{Stage, reader_of, stage_of, begun, with_saved, refused_with, counted_with, read_with, so_far, journal_byte, one_byte, fed_with, verdict_at, told_of, told}
 use Rattle.inspection.specs.Pieces.{at_first, Pieces}
 use Rattle.inspection.proofs.Verdict.{verdict_same}
 use Rattle.inspection.proofs.Along.{Going, Along, stays, goes, full, one_more, set_behind}
@@ -41,7 +46,7 @@ fed_flat (p ∷ ps) x = fed_flat ps (foldl one_byte x p) ∙ sym (foldl-append o
 
 -- n of its bytes are seen
 abbrev saving : ℕ → List ℕ → Stage
-saving n saved = stage_of (reader_of n 0 0 0 (zeros longest)) saved (zeros image_words)
+saving n saved = stage_of (reader_of n None 0 0 (zeros longest)) saved (zeros image_words)
 
 pub record Saved (l : List ℕ) (x : Stage) : Type 0 where
   pub bytes : List ℕ
@@ -93,7 +98,7 @@ record Kept (x y : Stage) : Type 0 where
 kept : (x : Stage) (b : ℕ) → Kept x (journal_byte x b)
 unfolding journal_byte
 kept x b =
-    go (not (eqb x.reader.number 0)) (leb longest x.reader.held) (leb journal_max (x.reader.offset + x.reader.held)) (read_entry (so_far x.reader b))
+    go (is_some x.reader.refusal) (leb longest x.reader.held) (leb journal_max (x.reader.offset + x.reader.held)) (read_entry (so_far x.reader b))
   where
     same : {y : Stage} → y.reader.seen ≡ x.reader.seen → y.saved ≡ x.saved → Kept x y
     same p q = record { seen = p; saved = q }
@@ -102,12 +107,9 @@ kept x b =
     by_count none = same refl refl
     by_count (some image) = same refl refl
 
-    by_cut : (n : ℕ) (c : Bool) → Kept x (cond c (waiting_with x b) (refused_with x n))
-    by_cut n true = same refl refl
-    by_cut n false = same refl refl
-
     by_read : (R : Read Entry) → Kept x (read_with x b R)
-    by_read (refused n) = by_cut n (eqb n cut_entry)
+    by_read (refused CutEntry) = same refl refl
+    by_read (refused n) = same refl refl
     by_read (got e rest) = by_count (made_on x.scratch e)
 
     go : (p q r : Bool) (R : Read Entry) → Kept x (cond p x (cond q (refused_with x cut_entry) (cond r x (read_with x b R))))
@@ -157,7 +159,7 @@ inspecting_none l x e s =
             state = fresh;
             reach = unbooted refl;
             image = refl;
-            no_number = refl;
+            no_refusal = refl;
             room = length_zeros longest;
             few = omega arith;
             cut = entry_none;
@@ -192,21 +194,21 @@ told_whole input x h i =
     image = words_at image_words input 0
 
     by_along : Along (take journal_max (drop image_bytes input)) x
-        → cond (not (eqb x.reader.number 0)) (bytes4 x.reader.number ++ bytes8 x.reader.offset)
-        (cond (not (eqb x.reader.held 0)) (bytes4 cut_entry ++ bytes8 x.reader.offset) (bytes4 0 ++ (bytes8 0 ++ verdict_at x)))
+        → told_of x.reader.refusal x.reader.offset
+        (cond (not (eqb x.reader.held 0)) (bytes4 (refusal_number cut_entry) ++ bytes8 x.reader.offset) (bytes4 0 ++ (bytes8 0 ++ verdict_at x)))
         ≡ report (words_at image_words input 0) (replay (take journal_max (drop image_bytes input)))
     by_along (stays t) =
-        rw (ne_eqb x.reader.number 0 t.some_number)
+        rw t.kept
         (sym (ap (report image) (ap replay (sym (append-nil j)) ∙ t.walks [])))
     by_along (goes g) = elim (ℕ_discrete x.reader.held 0) [
-      | yes z ↦ rw (eq-eqb x.reader.number 0 g.no_number, eq-eqb x.reader.held 0 z)
+      | yes z ↦ told_none x.reader.refusal g.no_refusal x.reader.offset _ ∙ rw (eq-eqb x.reader.held 0 z)
           (ap (λ (v : List ℕ). bytes4 0 ++ (bytes8 0 ++ v)) (verdict_same x g.state input g.reach g.image i.image)
           ∙ sym (ap (report image)
           (ap replay (sym (append-nil j))
           ∙ g.walks []
           ∙ ap (λ (n : ℕ). walk count x.reader.offset g.state (take n x.reader.waiting ++ [])) z
           ∙ walk_end count x.reader.offset g.state)))
-      | no z ↦ rw (eq-eqb x.reader.number 0 g.no_number, ne_eqb x.reader.held 0 z)
+      | no z ↦ told_none x.reader.refusal g.no_refusal x.reader.offset _ ∙ rw (ne_eqb x.reader.held 0 z)
           (sym (ap (report image)
           (ap replay (sym (append-nil j))
           ∙ g.walks []

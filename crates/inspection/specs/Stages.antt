@@ -5,7 +5,11 @@ use Rattle.std.proofs.Math.Option.{Option, none, some}
 use Rattle.layout.specs.Sizes.{image_words, register_words, register_count, current_register, mark_at, attestation_at}
 use Rattle.layout.specs.Words.{bytes4, bytes8, zeros, le32, bytes_in, part}
 use Rattle.layout.specs.Below.{all_below}
-use Rattle.layout.specs.Refusals.{wrong_image, cut_entry, uncounted}
+use Rattle.std.specs.Prelude as code
+use Rattle.std.specs.Option.{is_some}
+use Rattle.layout.specs.declared.refusals.Refusal.{Refusal}
+use Rattle.layout.specs.declared.refusals.Refusal.TheVariants.{WrongImage, CutEntry, Uncounted}
+use Rattle.layout.specs.Numbers.{refusal_number}
 use Rattle.journal.specs.Read.{Read, refused, got}
 use Rattle.journal.specs.Entries.{Entry, read_entry, longest}
 use Rattle.recount.specs.OnImage.{made_on}
@@ -19,15 +23,15 @@ pub record Stage : Type 0 where
   pub saved : List ℕ
   pub scratch : List ℕ
 
--- `seen` bytes of the saved image; a refusal's number, or 0; where the refused entry, or the one that waits, begins; its bytes so far
-abbrev pub reader_of : (seen number offset held : ℕ) → List ℕ → Reader
-reader_of seen number offset held waiting = record { seen = seen; number = number; offset = offset; held = held; waiting = waiting }
+-- `seen` bytes of the saved image; a refusal, if any; where the refused entry, or the one that waits, begins; its bytes so far
+abbrev pub reader_of : (seen : ℕ) (refusal : code.Option Refusal) (offset held : ℕ) → List ℕ → Reader
+reader_of seen refusal offset held waiting = record { seen = seen; refusal = refusal; offset = offset; held = held; waiting = waiting }
 
 abbrev pub stage_of : Reader → List ℕ → List ℕ → Stage
 stage_of r saved scratch = record { reader = r; saved = saved; scratch = scratch }
 
 unfoldable pub begun : Reader
-begun = reader_of 0 0 0 0 (zeros longest)
+begun = reader_of 0 code.None 0 0 (zeros longest)
 
 -- ---- one byte more
 
@@ -35,25 +39,26 @@ begun = reader_of 0 0 0 0 (zeros longest)
 abbrev pub with_saved : Stage → ℕ → Stage
 with_saved x b =
     let r = x.reader in
-    stage_of (reader_of (r.seen + 1) r.number r.offset r.held r.waiting) (set x.saved r.seen b) x.scratch
+    stage_of (reader_of (r.seen + 1) r.refusal r.offset r.held r.waiting) (set x.saved r.seen b) x.scratch
 
 -- an entry is refused
-abbrev pub refused_with : Stage → ℕ → Stage
-refused_with x n = let r = x.reader in stage_of (reader_of r.seen n r.offset r.held r.waiting) x.saved x.scratch
+abbrev pub refused_with : Stage → Refusal → Stage
+refused_with x n = let r = x.reader in stage_of (reader_of r.seen (code.Some n) r.offset r.held r.waiting) x.saved x.scratch
 
 -- an entry that is not yet whole waits
 abbrev pub waiting_with : Stage → ℕ → Stage
-waiting_with x b = let r = x.reader in stage_of (reader_of r.seen 0 r.offset (r.held + 1) (set r.waiting r.held b)) x.saved x.scratch
+waiting_with x b = let r = x.reader in stage_of (reader_of r.seen code.None r.offset (r.held + 1) (set r.waiting r.held b)) x.saved x.scratch
 
 -- a whole one counts, or does not
 abbrev pub counted_with : Stage → ℕ → Option (List ℕ) → Stage
-counted_with x b none = refused_with x uncounted
+counted_with x b none = refused_with x Uncounted
 counted_with x b (some image) =
     let r = x.reader in
-    stage_of (reader_of r.seen 0 (r.offset + (r.held + 1)) 0 (set r.waiting r.held b)) x.saved image
+    stage_of (reader_of r.seen code.None (r.offset + (r.held + 1)) 0 (set r.waiting r.held b)) x.saved image
 
 abbrev pub read_with : Stage → ℕ → Read Entry → Stage
-read_with x b (refused n) = cond (eqb n cut_entry) (waiting_with x b) (refused_with x n)
+read_with x b (refused CutEntry) = waiting_with x b
+read_with x b (refused n) = refused_with x n
 read_with x b (got e rest) = counted_with x b (made_on x.scratch e)
 
 -- the bytes of the entry, with the byte b
@@ -64,8 +69,8 @@ so_far r b = take (r.held + 1) (set r.waiting r.held b)
 unfoldable pub journal_byte : Stage → ℕ → Stage
 journal_byte x b =
     let r = x.reader in
-    cond (not (eqb r.number 0)) x
-    (cond (leb longest r.held) (refused_with x cut_entry)
+    cond (is_some r.refusal) x
+    (cond (leb longest r.held) (refused_with x CutEntry)
     (cond (leb journal_max (r.offset + r.held)) x
     (read_with x b (read_entry (so_far r b)))))
 
@@ -95,12 +100,17 @@ verdict_at x =
     (1 ∷ []))
     (0 ∷ [])
 
+-- a refusal's number and offset, or what is told without one
+abbrev pub told_of : code.Option Refusal → ℕ → List ℕ → List ℕ
+told_of (code.Some n) offset verdict = bytes4 (refusal_number n) ++ bytes8 offset
+told_of code.None offset verdict = verdict
+
 unfoldable pub told : Stage → List ℕ
 told x =
     let r = x.reader in
-    cond (ltb r.seen image_bytes) (bytes4 wrong_image ++ bytes8 0)
-    (cond (not (eqb r.number 0)) (bytes4 r.number ++ bytes8 r.offset)
-    (cond (not (eqb r.held 0)) (bytes4 cut_entry ++ bytes8 r.offset)
+    cond (ltb r.seen image_bytes) (bytes4 (refusal_number WrongImage) ++ bytes8 0)
+    (told_of r.refusal r.offset
+    (cond (not (eqb r.held 0)) (bytes4 (refusal_number CutEntry) ++ bytes8 r.offset)
     (bytes4 0 ++ (bytes8 0 ++ verdict_at x))))
 
 -- the most bytes: number and offset, verdict and registers

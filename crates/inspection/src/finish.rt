@@ -1,12 +1,13 @@
 // What the program writes: a number, an offset, and unless refused a verdict and registers.
 ghost use Rattle.std.specs.Prelude.{◌+◌, ◌*◌, ◌≤◌, ◌≡◌, ◌∷◌, ◌++◌, length};
+ghost use Rattle.layout.specs.Numbers.{refusal_number};
 ghost use Rattle.layout.specs.Words.{bytes4, bytes8, bytes_in, part};
 ghost use Rattle.replaying.specs.Report.{compared_at};
 ghost use Rattle.inspection.specs.declared.reader.Reader.{Reader};
 ghost use Rattle.inspection.specs.Stages.{stage_of, told_words, told_in, same_from, verdict_at, told};
 
 use crate::reader::{IMAGE_BYTES, Reader};
-use layout::refusals::{CUT_ENTRY, WRONG_IMAGE};
+use layout::refusals::Refusal;
 use layout::{ATTESTATION_AT, IMAGE_WORDS, MARK_AT, PCR2_AT, REGISTER_WORDS, REGISTERS};
 use packing::{byte_of, word};
 use slices::little_endian::read32;
@@ -22,7 +23,7 @@ const REGISTER_BYTES: usize = 4 * REGISTER_WORDS * (REGISTERS - 2);
 // The most bytes: with a verdict's byte between those.
 pub const TOLD_MAX: usize = HEAD_BYTES + 1 + REGISTER_BYTES;
 
-// What is written: its first `len` bytes; the others are zero.
+// What is written: its first `len` bytes; the others are zero. The memory is fixed, with no heap.
 #[derive(Clone, Copy)]
 pub struct Told {
     pub bytes: [u8; TOLD_MAX],
@@ -53,30 +54,28 @@ fn joined(front: [u8; HEAD_BYTES], back: &[u8]) -> Told
     ensures { result ≡ told_in (front ++ back.now) }
 {
     let mut bytes = [0u8; TOLD_MAX];
-    copying::copy(&front, &mut bytes);
-    copying::copy(back, &mut bytes[HEAD_BYTES..]);
+    bytes[..HEAD_BYTES].copy_from_slice(&front);
+    bytes[HEAD_BYTES..HEAD_BYTES + back.len()].copy_from_slice(back);
     Told {
         bytes,
         len: HEAD_BYTES + back.len(),
     }
 }
 
-fn refused(number: u32, offset: usize) -> Told
-    ensures { result ≡ told_in (bytes4 number ++ bytes8 offset) }
+fn refused(refusal: Refusal, offset: usize) -> Told
+    ensures { result ≡ told_in (bytes4 (refusal_number refusal) ++ bytes8 offset) }
 {
-    joined(head(number, offset), &[])
+    joined(head(u32::from(refusal), offset), &[])
 }
 
 // Whether the saved image's words from PCR2 on are those of the scratch image.
 fn same(saved: &[u8], scratch: &[u32]) -> bool
     ensures { result ≡ same_from saved.now scratch.now }
 {
-    let mut k = 0;
-    while k < COMPARED {
+    for k in 0..COMPARED {
         if read32(saved, 4 * (PCR2_AT + k)) != word(scratch, PCR2_AT + k) {
             return false;
         }
-        k += 1;
     }
     true
 }
@@ -87,10 +86,8 @@ fn with_registers(verdict: u8, scratch: &[u32]) -> [u8; 1 + REGISTER_BYTES]
 {
     let mut out = [0u8; 1 + REGISTER_BYTES];
     out[0] = verdict;
-    let mut k = 0;
-    while k < REGISTER_BYTES {
+    for k in 0..REGISTER_BYTES {
         out[1 + k] = byte_of(word(scratch, PCR2_AT + k / 4), k % 4);
-        k += 1;
     }
     out
 }
@@ -116,13 +113,13 @@ pub fn finish(reader: Reader, saved: &[u8], scratch: &[u32]) -> Told
     ensures { result ≡ told_in (told (stage_of reader saved.now scratch.now)) }
 {
     if reader.seen < IMAGE_BYTES {
-        return refused(WRONG_IMAGE, 0);
+        return refused(Refusal::WrongImage, 0);
     }
-    if reader.number != 0 {
-        return refused(reader.number, reader.offset);
+    if let Some(refusal) = reader.refusal {
+        return refused(refusal, reader.offset);
     }
     if reader.held != 0 {
-        return refused(CUT_ENTRY, reader.offset);
+        return refused(Refusal::CutEntry, reader.offset);
     }
     verdict(saved, scratch)
 }

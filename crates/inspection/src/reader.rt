@@ -5,18 +5,19 @@ ghost use Rattle.inspection.specs.Stages.{begun};
 
 use journal_bytes::entry::LONGEST;
 use layout::IMAGE_WORDS;
+use layout::refusals::Refusal;
 
 // The bytes of an image, and how many of the journal's are read.
 pub const IMAGE_BYTES: usize = 4 * IMAGE_WORDS;
 
 pub const JOURNAL_MAX: usize = 0x100000000;
 
-// `seen` counts the saved image's bytes. `number` is 0, or the refusal's; `offset` is where the refused
+// `seen` counts the saved image's bytes. `refusal` is an entry's, which stays; `offset` is where the refused
 // entry, or the one that waits, begins in the journal, and `held` bytes of it are in `waiting`.
 #[derive(Clone, Copy)]
 pub struct Reader {
     pub seen: usize,
-    pub number: u32,
+    pub refusal: Option<Refusal>,
     pub offset: usize,
     pub held: usize,
     pub waiting: [u8; LONGEST],
@@ -28,7 +29,7 @@ pub fn begin() -> Reader
 {
     Reader {
         seen: 0,
-        number: 0,
+        refusal: None,
         offset: 0,
         held: 0,
         waiting: [0u8; LONGEST],

@@ -5,30 +5,20 @@ ghost use Rattle.layout.specs.Sizes.{handle_bytes};
 ghost use Rattle.layout.specs.Words.{part, zeros};
 
 use layout::{HANDLE_BYTES, INPUT_BYTES};
-use slices::little_endian::byte;
-use slices::strings::joined;
+use slices::strings::{bytes_of, joined};
 
 // A fresh handle's bytes; what it lacks is zero.
 pub(crate) fn fresh_bytes(fresh: &[u8]) -> [u8; HANDLE_BYTES]
     ensures { result ≡ part handle_bytes fresh.now 0 }
 {
-    let mut out = [0u8; HANDLE_BYTES];
-    let mut k = 0;
-    while k < HANDLE_BYTES {
-        out[k] = byte(fresh, 0, k);
-        k += 1;
-    }
-    out
+    bytes_of(fresh, 0)
 }
 
 // Two handles, and zeros to 48 bytes.
 fn handles(first: [u8; HANDLE_BYTES], second: [u8; HANDLE_BYTES]) -> [u8; 48]
     ensures { result ≡ first ++ (second ++ zeros (48 - 2 * handle_bytes)) }
 {
-    let mut out = [0u8; 48];
-    copying::copy(&first, &mut out);
-    copying::copy(&second, &mut out[HANDLE_BYTES..]);
-    out
+    joined(&first, &second)
 }
 
 pub(crate) fn inputs_of(
@@ -38,5 +28,5 @@ pub(crate) fn inputs_of(
 ) -> [u8; INPUT_BYTES]
     ensures { result ≡ digest ++ (handle ++ (fresh ++ zeros (48 - 2 * handle_bytes))) }
 {
-    joined(digest, handles(handle, fresh))
+    joined(&digest, &handles(handle, fresh))
 }

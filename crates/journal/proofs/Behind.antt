@@ -10,6 +10,7 @@ use lib.Dec.{leb}
 use lib.ListN.{length, take, drop, length-append, length-drop, take-append-drop}
 use lib.Seq.{take-append-le, drop-append-le}
 use borrow.Author.Tests.{le-leb, leb-true, leb-false}
+use Rattle.layout.specs.Numbers.{refusal_number}
 use Rattle.layout.specs.Refusals.{unlisted_kind, bad_number, cut_entry}
 use Rattle.journal.specs.Read.{Read, refused, got, and_then, map_read}
 use Rattle.journal.specs.Numbers.{under, is_last, is_needed, is_top, wrong_byte, read_later, read_number}
@@ -90,13 +91,13 @@ later_takes : (n : ℕ) (l : List ℕ) → Takes 1 (suc n) l (read_later n l)
 unfolding read_later
 later_takes n [] = λ e. omega arith
 later_takes zero (b ∷ l) =
-    by_test (λ t. Takes 1 1 (b ∷ l) (cond t (got b l) wrong_byte)) (is_needed b && is_top b) (λ e. (omega arith, omega arith)) (λ e f. absurd (omega arith))
+    by_test (λ t. Takes 1 1 (b ∷ l) (cond t (got b l) wrong_byte)) (is_needed b && is_top b) (λ e. (omega arith, omega arith)) (λ e f. absurd (omega (arith, ap refusal_number f)))
 later_takes (suc n) (b ∷ l) =
     by_test (λ t. Takes 1 (suc (suc n)) (b ∷ l) (cond t (cond (is_last b) (got b l) (map_read (under (b - 128)) (read_later n l))) wrong_byte)) (is_needed b)
     (λ e. by_test (λ t. Takes 1 (suc (suc n)) (b ∷ l) (cond t (got b l) (map_read (under (b - 128)) (read_later n l)))) (is_last b)
     (λ e. (omega arith, omega arith))
     (λ e. takes_map 1 (suc (suc n)) (b ∷ l) (under (b - 128)) (read_later n l) (takes_more 1 (suc n) b l (read_later n l) (later_takes n l))))
-    (λ e f. absurd (omega arith))
+    (λ e f. absurd (omega (arith, ap refusal_number f)))
 
 number_takes : (l : List ℕ) → Takes 1 5 l (read_number l)
 unfolding read_number
@@ -152,7 +153,7 @@ form_fits rotate_form = omega arith
 form_fits destroy_form = omega arith
 
 form_takes : (k : ℕ) (o : Option Form) (l : List ℕ) → Takes 1 longest (k ∷ l) (read_form o l)
-form_takes k none l = λ e. absurd (omega arith)
+form_takes k none l = λ e. absurd (omega (arith, ap refusal_number e))
 form_takes k (some f) l =
     takes_map 1 longest (k ∷ l) (entry_of f) (read_fields (fields_of f) l)
     (wider (read_fields (fields_of f) l) (takes_more 0 (most_in (fields_of f)) k l (read_fields (fields_of f) l) (fields_take (fields_of f) l)))

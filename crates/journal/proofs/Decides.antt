@@ -7,6 +7,7 @@ use mathlib.Core.Option.{Option, none, some}
 use native.Mathlib.Omega.{arith}
 use native.Mathlib.Nat.{not-suc-le-zero}
 use lib.ListN.{get_or}
+use Rattle.layout.specs.declared.refusals.Refusal.{Refusal}
 use Rattle.layout.specs.Refusals.{unlisted_kind, bad_number, cut_entry}
 use Rattle.journal.specs.Read.{Read, refused, got, map_read}
 use Rattle.journal.specs.Fields.{Values, fields_bytes, read_fields}
@@ -22,7 +23,7 @@ not_unlisted : (f : Form) (l : List ℕ) → read_form (some f) l ≡ refused un
 not_unlisted f l = go (read_fields (fields_of f) l) (fields_leave (fields_of f) l)
   where
     go : (x : Read (Values (fields_of f))) → Leaves l x → map_read (entry_of f) x ≡ refused unlisted_kind → ⊥
-    go (refused n) h e = let q : n ≡ unlisted_kind = cc in ⊎_elim (λ k. omega arith) (λ k. omega arith) h
+    go (refused n) h e = ⊎_elim (λ k. let z : ◌≡◌ {A = ℕ} 0 1 = cc in omega arith) (λ k. let z : ◌≡◌ {A = ℕ} 0 1 = cc in omega arith) h
     go (got vs rest) h e = let z : ◌≡◌ {A = ℕ} 0 1 = cc in omega arith
 
 module _ (k : ℕ) (l : List ℕ) (s : Bytes (k ∷ l)) where
@@ -65,9 +66,9 @@ module _ (k : ℕ) (l : List ℕ) (s : Bytes (k ∷ l)) where
   is_cut c = prefix_waits c.0 (k ∷ l) c.1 c.2.0 c.3 c.4
 
   bad_is : read_entry (k ∷ l) ≡ refused bad_number → (¬ Unlisted (k ∷ l)) × (¬ CutShort (k ∷ l)) × (¬ BeginsWithEntry (k ∷ l))
-  bad_is h = (λ u. other unlisted_kind (omega arith) (is_unlisted u), λ c. other cut_entry (omega arith) (is_cut c), λ b. read b.0 b.1 (is_read b.0 b.1 (b.2, b.3)))
+  bad_is h = (λ u. other unlisted_kind (λ e. let z : ◌≡◌ {A = ℕ} 0 1 = cc in omega arith) (is_unlisted u), λ c. other cut_entry (λ e. let z : ◌≡◌ {A = ℕ} 0 1 = cc in omega arith) (is_cut c), λ b. read b.0 b.1 (is_read b.0 b.1 (b.2, b.3)))
     where
-      other : (n : ℕ) → (n ≡ bad_number → ⊥) → read_entry (k ∷ l) ≡ refused n → ⊥
+      other : (n : Refusal) → (n ≡ bad_number → ⊥) → read_entry (k ∷ l) ≡ refused n → ⊥
       other n ne q = ne (cc)
 
       read : (e : Entry) (rest : List ℕ) → read_entry (k ∷ l) ≡ got e rest → ⊥

@@ -6,6 +6,7 @@ use mathlib.Core.Option.{Option, none, some}
 use native.Mathlib.Omega.{arith}
 use native.Mathlib.Nat.{add-zero, not-suc-le-zero}
 use lib.ListN.{length, length-append}
+use Rattle.layout.specs.declared.refusals.Refusal.{Refusal}
 use Rattle.layout.specs.Refusals.{cut_entry, uncounted}
 use Rattle.journal.specs.Read.{Read, refused, got}
 use Rattle.journal.specs.Entries.{Entry, EntriesOk, entry_bytes, journal_bytes, read_entry, longest}
@@ -73,7 +74,7 @@ module _ {S : Type 0} (count : S → Entry → Option S) where
       absurd (omega (arith, t.0))
   walk_uncounted at x (b ∷ l) e rest h c = rw (h, c)
 
-  pub walk_refused : (at : ℕ) (x : S) (l : List ℕ) (n : ℕ) → 0 < length l → read_entry l ≡ refused n → walk count at x l ≡ stopped n at
+  pub walk_refused : (at : ℕ) (x : S) (l : List ℕ) (n : Refusal) → 0 < length l → read_entry l ≡ refused n → walk count at x l ≡ stopped n at
   unfolding walk walk_for
   walk_refused at x [] n k h = absurd (not-suc-le-zero k)
   walk_refused at x (b ∷ l) n k h = rw h
@@ -91,7 +92,7 @@ module _ {S : Type 0} (count : S → Entry → Option S) where
       → walk count at x (l ++ m) ≡ stopped uncounted at
   piece_uncounted at x l m e rest h c = walk_uncounted at x (l ++ m) e (rest ++ m) (rw h at (entry_grows m l)) c
 
-  pub piece_refused : (at : ℕ) (x : S) (l m : List ℕ) (n : ℕ) → 0 < length l → read_entry l ≡ refused n → (n ≡ cut_entry → ⊥)
+  pub piece_refused : (at : ℕ) (x : S) (l m : List ℕ) (n : Refusal) → 0 < length l → read_entry l ≡ refused n → (n ≡ cut_entry → ⊥)
       → walk count at x (l ++ m) ≡ stopped n at
   piece_refused at x l m n k h ne =
       let g : Grows m (refused n) (read_entry (l ++ m)) = rw h at (entry_grows m l) in

@@ -1,6 +1,7 @@
 -- Laws of the journal.
 pub mod Bytes
 pub mod Says
+pub mod Refusals
 pub mod Numbers
 pub mod Fields
 pub mod Entries

@@ -4,11 +4,12 @@ use mathlib.Core.Path.{◌≡◌, refl, sym, ap, ◌∙◌}
 use mathlib.Core.Bool.{cond, ◌&&◌}
 use mathlib.Core.List.{List, [], ◌∷◌, ◌++◌, append_assoc, append-nil}
 use mathlib.Core.Option.{Option, none, some}
+use mathlib.Core.Logic.{inl, inr}
 use native.Mathlib.Omega.{arith}
-use native.Mathlib.Decide.{ℕ_discrete}
 use lib.Dec.{leb}
 use lib.ListN.{length, take, drop, replicate, length-append, length-replicate}
 use borrow.Author.Tests.{leb-false, ltb-false}
+use Rattle.layout.specs.Numbers.{refusal_number}
 use Rattle.layout.specs.Refusals.{cut_entry}
 use Rattle.journal.specs.Read.{Read, refused, got, and_then, map_read}
 use Rattle.journal.specs.Numbers.{groups, number_bytes, under, is_last, is_needed, is_top, wrong_byte, read_later, read_number}
@@ -16,6 +17,7 @@ use Rattle.journal.specs.Fields.{Field, number, plain, Value, Values, FieldOk, F
 use Rattle.journal.specs.Entries.{Entry, Form, kind_byte, forms, form_at, fields_of, entry_of, EntryOk, entry_bytes, read_form, read_entry}
 use Rattle.journal.specs.Statements.{Bytes, Grows}
 use Rattle.journal.proofs.Bytes.{bytes_rest, bytes_append, bytes_one, bytes_zeros}
+use Rattle.journal.proofs.Refusals.{cut_or_not}
 use Rattle.journal.proofs.Says.{Says, by_test}
 use Rattle.journal.proofs.Numbers.{groups_under, LaterOk, later_one, later_under}
 use Rattle.journal.proofs.Fields.{FieldIs, field_says}
@@ -65,13 +67,13 @@ later_waits : (n : ℕ) (l : List ℕ) → Bytes l → Waits (groups n) (LaterOk
 unfolding read_later
 later_waits n [] s = λ e. record { value = 1; ok = later_one n; missing = 1 ∷ []; bytes = bytes_one 1 (omega arith); more = omega arith; whole = sym (groups_one n) }
 later_waits zero (b ∷ l) s =
-    by_test (λ t. Waits (groups zero) (LaterOk zero) (b ∷ l) (cond t (got b l) wrong_byte)) (is_needed b && is_top b) (λ e. tt) (λ e f. absurd (omega arith))
+    by_test (λ t. Waits (groups zero) (LaterOk zero) (b ∷ l) (cond t (got b l) wrong_byte)) (is_needed b && is_top b) (λ e. tt) (λ e f. absurd (omega (arith, ap refusal_number f)))
 later_waits (suc n) (b ∷ l) s =
     by_test (λ t. Waits (groups (suc n)) (LaterOk (suc n)) (b ∷ l) (cond t (cond (is_last b) (got b l) (map_read (under (b - 128)) (read_later n l))) wrong_byte)) (is_needed b)
     (λ e. by_test (λ t. Waits (groups (suc n)) (LaterOk (suc n)) (b ∷ l) (cond t (got b l) (map_read (under (b - 128)) (read_later n l)))) (is_last b)
     (λ f. tt)
     (λ f. waits_map l (b ∷ l) (under (b - 128)) (goes_on_under n b l (omega (arith, ltb-false b _ f)) (s 0)) (read_later n l) (later_waits n l (λ i. s (suc i)))))
-    (λ e f. absurd (omega arith))
+    (λ e f. absurd (omega (arith, ap refusal_number f)))
 
 number_waits : (l : List ℕ) → Bytes l → Waits number_bytes (FieldOk number) l (read_number l)
 unfolding read_number groups
@@ -166,7 +168,7 @@ fields_wait (f ∷ fs) l s = onward (read_field f l) (field_says f l s) (field_w
 -- ---- an entry
 
 form_waits : (k : ℕ) (l : List ℕ) (o : Option Form) → Bytes l → Found k o → Waits entry_bytes EntryOk (k ∷ l) (read_form o l)
-form_waits k l none s h = λ e. absurd (omega arith)
+form_waits k l none s h = λ e. absurd (omega (arith, ap refusal_number e))
 form_waits k l (some f) s h = waits_map l (k ∷ l) (entry_of f) built (read_fields (fields_of f) l) (fields_wait (fields_of f) l s)
   where
     built : GoesOn (fields_bytes (fields_of f)) (FieldsOk (fields_of f)) l → GoesOn entry_bytes EntryOk (k ∷ l)
@@ -189,9 +191,9 @@ pub prefix_waits : (e : Entry) (l m : List ℕ) → EntryOk e → 0 < length m �
 prefix_waits e l m ok k w = by_reading (read_entry l) (rw (w ∙ sym (append-nil (entry_bytes e)), read_entry_law e [] ok) at (entry_grows m l))
   where
     by_reading : (x : Read Entry) → Grows m x (got e []) → x ≡ refused cut_entry
-    by_reading (refused n) g = elim (ℕ_discrete n cut_entry) [
-      | yes z ↦ ap refused z
-      | no ne ↦ (let q : got e [] ≡ refused n = g ne in let z : ◌≡◌ {A = ℕ} 0 1 = cc in absurd (omega arith))
+    by_reading (refused n) g = elim (cut_or_not n) [
+      | inl z ↦ ap refused z
+      | inr ne ↦ (let q : got e [] ≡ refused n = g ne in let z : ◌≡◌ {A = ℕ} 0 1 = cc in absurd (omega arith))
     ]
     by_reading (got v rest) g =
         let q : [] ≡ rest ++ m = cc in

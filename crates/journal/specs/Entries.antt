@@ -2,7 +2,7 @@
 use Rattle.std.specs.Prelude.{ℕ, cond, List, [], ◌∷◌, ◌++◌, eqb}
 use Rattle.std.proofs.Math.Option.{Option, none, some}
 use Rattle.layout.specs.Sizes.{handle_bytes}
-use Rattle.layout.specs.Refusals.{unlisted_kind, cut_entry}
+use Rattle.layout.specs.declared.refusals.Refusal.TheVariants.{UnlistedKind, CutEntry}
 use Rattle.journal.specs.Read.{Read, refused, map_read}
 use Rattle.journal.specs.Fields.{Field, number, plain, Values, FieldsOk, fields_bytes, read_fields}
 
@@ -139,10 +139,10 @@ journal_bytes (e ∷ es) = entry_bytes e ++ journal_bytes es
 
 -- "20 kind not listed"
 abbrev pub read_form : Option Form → List ℕ → Read Entry
-read_form none l = refused unlisted_kind
+read_form none l = refused UnlistedKind
 read_form (some f) l = map_read (entry_of f) (read_fields (fields_of f) l)
 
 -- "22 cut entry": before its first byte too
 unfoldable pub read_entry : List ℕ → Read Entry
-read_entry [] = refused cut_entry
+read_entry [] = refused CutEntry
 read_entry (k ∷ l) = read_form (form_at k) l

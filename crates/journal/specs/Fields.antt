@@ -1,6 +1,6 @@
 -- Fields one after another: numbers, and plain bytes of a fixed number. Assumes nothing.
 use Rattle.std.specs.Prelude.{ℕ, ◌^◌, ◌<◌, ◌≡◌, cond, List, [], ◌∷◌, ◌++◌, leb, length, take, drop}
-use Rattle.layout.specs.Refusals.{cut_entry}
+use Rattle.layout.specs.declared.refusals.Refusal.TheVariants.{CutEntry}
 use Rattle.journal.specs.Read.{Read, refused, got, and_then, map_read}
 use Rattle.journal.specs.Numbers.{number_bytes, read_number}
 
@@ -26,7 +26,7 @@ fields_bytes (f ∷ fs) vs = field_bytes f vs.0 ++ fields_bytes fs vs.1
 
 abbrev pub read_field : (f : Field) → List ℕ → Read (Value f)
 read_field number l = read_number l
-read_field (plain n) l = cond (leb n (length l)) (got (take n l) (drop n l)) (refused cut_entry)
+read_field (plain n) l = cond (leb n (length l)) (got (take n l) (drop n l)) (refused CutEntry)
 
 unfoldable pub read_fields : (fs : List Field) → List ℕ → Read (Values fs)
 read_fields [] l = got tt l

@@ -3,16 +3,17 @@ use Rattle.std.specs.Prelude.{ℕ, zero, suc, ◌+◌, ◌-◌, List, [], ◌∷
 use Rattle.std.proofs.Math.Option.{Option, none, some}
 use Rattle.journal.specs.Read.{Read, refused, got}
 use Rattle.journal.specs.Entries.{Entry, entry_bytes, read_entry}
-use Rattle.layout.specs.Refusals.{uncounted}
+use Rattle.layout.specs.declared.refusals.Refusal.{Refusal}
+use Rattle.layout.specs.declared.refusals.Refusal.TheVariants.{Uncounted}
 
 -- "Refusals, with the entry's offset in the journal"; or what the entries came to
 pub data Walked (S : Type 0) : Type 0 where
-  stopped : (number offset : ℕ) → Walked S
+  stopped : (refusal : Refusal) (offset : ℕ) → Walked S
   ended : S → Walked S
 
 -- an entry at an offset that counts, or does not; behind it the walk goes on
 abbrev pub on_count : {S : Type 0} → ℕ → Option S → (S → Walked S) → Walked S
-on_count at none go = stopped uncounted at
+on_count at none go = stopped Uncounted at
 on_count at (some y) go = go y
 
 -- "Entry by entry, form first"

@@ -1,6 +1,6 @@
 -- "Numbers are in groups of seven bits, lowest first, top bit set when another follows, shortest form only, at most 32 bits." Assumes nothing.
 use Rattle.std.specs.Prelude.{ℕ, zero, suc, ◌+◌, ◌-◌, ◌*◌, ◌/◌, ◌%◌, Bool, cond, ◌&&◌, List, [], ◌∷◌, leb, ltb}
-use Rattle.layout.specs.Refusals.{bad_number, cut_entry}
+use Rattle.layout.specs.declared.refusals.Refusal.TheVariants.{BadNumber, CutEntry}
 use Rattle.journal.specs.Read.{Read, refused, got, map_read}
 
 -- a number in at most n + 1 groups
@@ -30,15 +30,15 @@ is_top b = ltb b 16
 
 -- "21 number too long or too large": a byte that no number could have there
 abbrev pub wrong_byte : Read ℕ
-wrong_byte = refused bad_number
+wrong_byte = refused BadNumber
 
 -- the groups after the first, where n more may follow this one
 unfoldable pub read_later : ℕ → List ℕ → Read ℕ
-read_later n [] = refused cut_entry
+read_later n [] = refused CutEntry
 read_later zero (b ∷ l) = cond (is_needed b && is_top b) (got b l) wrong_byte
 read_later (suc n) (b ∷ l) = cond (is_needed b) (cond (is_last b) (got b l) (map_read (under (b - 128)) (read_later n l))) wrong_byte
 
 -- a number: its first byte may be any
 unfoldable pub read_number : List ℕ → Read ℕ
-read_number [] = refused cut_entry
+read_number [] = refused CutEntry
 read_number (b ∷ l) = cond (is_last b) (got b l) (map_read (under (b - 128)) (read_later 3 l))

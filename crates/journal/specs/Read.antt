@@ -1,9 +1,10 @@
 -- What reading at the front of a byte list gives. Assumes nothing.
 use Rattle.std.specs.Prelude.{ℕ, List}
+use Rattle.layout.specs.declared.refusals.Refusal.{Refusal}
 
--- a refusal's number, or a value and the bytes behind it
+-- a refusal, or a value and the bytes behind it
 pub data Read (A : Type 0) : Type 0 where
-  refused : ℕ → Read A
+  refused : Refusal → Read A
   got : A → List ℕ → Read A
 
 -- go on behind what was read; a refusal stays

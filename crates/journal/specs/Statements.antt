@@ -1,6 +1,7 @@
 -- What §3 of document 02 says of a journal's bytes, each sentence as a statement; proofs/ proves them. Assumes nothing.
 use Rattle.std.specs.Prelude.{ℕ, ◌+◌, ◌≤◌, ◌<◌, ◌≡◌, ◌↔◌, List, [], ◌∷◌, ◌++◌, get_or, length}
-use Rattle.layout.specs.Refusals.{unlisted_kind, bad_number, cut_entry}
+use Rattle.layout.specs.declared.refusals.Refusal.{Refusal}
+use Rattle.layout.specs.declared.refusals.Refusal.TheVariants.{UnlistedKind, BadNumber, CutEntry}
 use Rattle.journal.specs.Read.{Read, refused, got}
 use Rattle.journal.specs.Numbers.{number_bytes}
 use Rattle.journal.specs.Entries.{Entry, cold_boot, update, disabling, stash, extension, derive, extend, rotate, destroy, EntryOk, EntriesOk, entry_bytes, journal_bytes, read_entry, longest}
@@ -39,7 +40,7 @@ abbrev pub OneJournal : Type 0
 OneJournal = (l : List ℕ) (es : List Entry) → Bytes l → (read_journal l ≡ ended es) ↔ ((l ≡ journal_bytes es) × EntriesOk es)
 
 -- "Refusals, with the entry's offset in the journal": entries that are read, and at the offset behind them one that is not
-pub record Stopped (l : List ℕ) (n offset : ℕ) : Type 0 where
+pub record Stopped (l : List ℕ) (n : Refusal) (offset : ℕ) : Type 0 where
   pub before : List Entry
   pub rest : List ℕ
   pub split : l ≡ journal_bytes before ++ rest
@@ -49,7 +50,7 @@ pub record Stopped (l : List ℕ) (n offset : ℕ) : Type 0 where
   pub refusal : read_entry rest ≡ refused n
 
 abbrev pub StopsThere : Type 0
-StopsThere = (l : List ℕ) (n offset : ℕ) → Bytes l → (read_journal l ≡ stopped n offset) ↔ Stopped l n offset
+StopsThere = (l : List ℕ) (n : Refusal) (offset : ℕ) → Bytes l → (read_journal l ≡ stopped n offset) ↔ Stopped l n offset
 
 -- ---- one entry: what decides its reading
 
@@ -72,9 +73,9 @@ CutShort l = (e : Entry) × (m : List ℕ) × Fine e × (0 < length m) × (l ++ 
 -- "20 kind not listed, 21 number too long or too large, 22 cut entry; the first byte that no entry could have there decides"
 pub record Decided (l : List ℕ) : Type 0 where
   pub read : (e : Entry) (rest : List ℕ) → (read_entry l ≡ got e rest) ↔ (Fine e × (l ≡ entry_bytes e ++ rest))
-  pub unlisted : (read_entry l ≡ refused unlisted_kind) ↔ Unlisted l
-  pub cut : (read_entry l ≡ refused cut_entry) ↔ CutShort l
-  pub bad : (read_entry l ≡ refused bad_number) ↔ ((¬ Unlisted l) × (¬ CutShort l) × (¬ BeginsWithEntry l))
+  pub unlisted : (read_entry l ≡ refused UnlistedKind) ↔ Unlisted l
+  pub cut : (read_entry l ≡ refused CutEntry) ↔ CutShort l
+  pub bad : (read_entry l ≡ refused BadNumber) ↔ ((¬ Unlisted l) × (¬ CutShort l) × (¬ BeginsWithEntry l))
 
 abbrev pub Decides : Type 0
 Decides = (l : List ℕ) → Bytes l → 0 < length l → Decided l
@@ -83,7 +84,7 @@ Decides = (l : List ℕ) → Bytes l → 0 < length l → Decided l
 
 -- what a reading x becomes when the bytes m follow: what was read stays, and so does every refusal but 22
 abbrev pub Grows : {A : Type 0} → List ℕ → Read A → Read A → Type 0
-Grows m (refused n) y = (n ≡ cut_entry → ⊥) → y ≡ refused n
+Grows m (refused n) y = (n ≡ CutEntry → ⊥) → y ≡ refused n
 Grows m (got v rest) y = y ≡ got v (rest ++ m)
 
 -- "decides": whatever bytes follow
@@ -92,7 +93,7 @@ Stays = (m l : List ℕ) → Grows m (read_entry l) (read_entry (l ++ m))
 
 -- reading took at least `few` bytes of l, and at most `most`; where it waits for more, there are fewer than that
 abbrev pub Takes : {A : Type 0} → ℕ → ℕ → List ℕ → Read A → Type 0
-Takes few most l (refused n) = n ≡ cut_entry → length l < most
+Takes few most l (refused n) = n ≡ CutEntry → length l < most
 Takes few most l (got v rest) = (few + length rest ≤ length l) × (length l ≤ most + length rest)
 
 -- an entry has a byte at least, and no more than the longest; a cut one has fewer

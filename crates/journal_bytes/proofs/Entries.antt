@@ -1,175 +1,105 @@
--- Plain bytes and an entry read from a list, as the code's structs. Assumes nothing.
-use Prim.Native.Nat.{ℕ, ◌+◌, ◌-◌, ◌*◌, ◌≤◌, ◌<◌}
-use mathlib.Core.Path.{◌≡◌, refl, sym, ap, ap₂, ◌∙◌}
-use mathlib.Core.Logic.{⊎_elim, inl, inr}
-use mathlib.Core.Bool.{cond}
-use mathlib.Core.List.{List, [], ◌∷◌, ◌++◌, append-nil}
+-- An entry by its kind, and a derive by its fields. Assumes nothing.
+use Prim.Native.Nat.{ℕ, suc, ◌-◌, ◌*◌, ◌≤◌}
+use mathlib.Core.Path.{◌≡◌, refl, sym, ap, ◌∙◌}
+use mathlib.Core.List.{List, [], ◌∷◌, ◌++◌}
+use mathlib.Core.Option.{Option, none, some}
 use native.Mathlib.Omega.{arith}
-use lib.ListN.{length, get_or, drop, take, length-drop, drop_of_length-le}
-use lib.Seq.{drop-drop, take_all, take_at, drop_at, length-take-le}
-use lib.Dec.{leb}
-use borrow.Author.Tests.{le-leb, lt-leb, leb-true, leb-false, ne_eqb}
+use lib.ListN.{length, take, drop, length-append}
+use lib.Seq.{take_at, drop_at}
+use Rattle.std.proofs.Common.{Ok, Err}
 use Rattle.layout.specs.Sizes.{handle_bytes}
 use Rattle.layout.specs.Words.{zeros}
-use Rattle.layout.specs.Refusals.{unlisted_kind, cut_entry}
-use Rattle.journal.specs.Read.{Read, refused, got, map_read}
-use Rattle.journal.specs.Fields.{number, plain, Values, read_field, read_fields}
-use Rattle.journal.specs.Entries.{Entry, cold_boot, update, disabling, stash, extension, derive, extend, rotate, destroy, digest, handle, derive_fields, Form, disabling_form, cold_boot_form, update_form, derive_form, kind_byte, entry_of, fields_of, read_entry}
-use Rattle.journal.proofs.Says.{Says, by_test}
-use Rattle.journal.proofs.Behind.{Leaves, fields_leave, EntryLeaves, entry_leaves}
+use Rattle.layout.specs.declared.refusals.Refusal.{Refusal}
+use Rattle.layout.specs.Refusals.{unlisted_kind}
+use Rattle.journal.specs.Read.{Read, refused, got, and_then, map_read}
+use Rattle.journal.specs.Fields.{number, Values, read_fields}
+use Rattle.journal.specs.Entries.{Entry, cold_boot, update, disabling, stash, extension, derive, extend, rotate, destroy, Form, handle, derive_fields, form_at, fields_of, entry_of, derive_form, read_entry, cold_boot_form, update_form, disabling_form, stash_form, extension_form, extend_form, rotate_form, destroy_form}
+use Rattle.journal.proofs.Behind.{Leaves, fields_leave}
 use Rattle.journal.proofs.Fields.{fields_append}
-use Rattle.journal.proofs.Entries.{same_form, EntrySized, entry_sized}
-use Rattle.journal_bytes.specs.Results.{parts_with, handles_in, handle_part, fresh_part, parts_of, entry_in, plain_number, plain_bytes, refused_derive, derive_told, derive_read, refused_entry, entry_told, entry_read}
-use Rattle.journal_bytes.specs.Fields.{BootKind}
+use Rattle.journal.proofs.Entries.{EntrySized}
+use Rattle.journal_bytes.specs.Kinds.{form_by, kind_by, kind_told, kind_at}
 use Rattle.journal_bytes.specs.declared.entry.EntryKind.{EntryKind}
-use Rattle.journal_bytes.specs.declared.read.DeriveRead.{DeriveRead}
-use Rattle.journal_bytes.specs.declared.read.EntryRead.{EntryRead}
-use Rattle.journal_bytes.proofs.Numbers.{at_byte, left_behind}
+use Rattle.journal_bytes.specs.declared.entry.EntryKind.TheVariants.{Derive}
+use Rattle.journal_bytes.specs.declared.entry.EntryParts.{EntryParts}
+use Rattle.journal_bytes.specs.declared.read.DeriveFields.{DeriveFields}
+use Rattle.journal_bytes.specs.Results.{parts_with, handles_in, handle_part, fresh_part, parts_of, entry_in, parts_read, taken_of, derive_parts, derive_read, entry_read}
 
--- ---- plain bytes
+-- ---- a derive: behind its fields in its entry stand the fresh handle and the caller
 
-module _ (n : ℕ) (s : List ℕ) (at : ℕ) where
-  pub plain_short : length s - at < n → plain_number n (drop at s) ≡ cut_entry
-  unfolding plain_number
-  plain_short h = rw (lt-leb n (length (drop at s)) (omega (arith, length-drop at s)))
+abbrev pub derive_told : DeriveFields → List ℕ → Read EntryParts
+derive_told d rest =
+    map_read (λ vs. parts_with Derive d.node_type 0 d.retain vs.1.0 d.digest (handles_in d.handle vs.0)) (read_fields (handle ∷ number ∷ []) rest)
 
-  pub plain_long : n ≤ length s - at → plain_number n (drop at s) ≡ 0
-  unfolding plain_number
-  plain_long h = rw (le-leb n (length (drop at s)) (omega (arith, length-drop at s)))
+pub derive_split : (l : List ℕ) → parts_read derive_form l ≡ and_then (derive_read l) derive_told
+unfolding parts_read derive_read parts_of
+derive_split l = ap (map_read (λ vs. parts_of (entry_of derive_form vs))) (fields_append derive_fields (handle ∷ number ∷ []) l) ∙ by_fields (read_fields derive_fields l)
+  where
+    by_rest : (vs : Values derive_fields) (y : Read (Values (handle ∷ number ∷ [])))
+        → map_read (λ ws. parts_of (entry_of derive_form ws)) (map_read (λ ws. (vs.0, (vs.1.0, (vs.1.1.0, (vs.1.1.1.0, ws))))) y)
+        ≡ map_read (λ ws. parts_with Derive vs.1.1.0 0 vs.1.0 ws.1.0 vs.1.1.1.0 (handles_in vs.0 ws.0)) y
+    by_rest vs (refused r) = refl
+    by_rest vs (got ws rest) = refl
 
--- what is told of a list, by the test of its length
-module _ (n : ℕ) (l : List ℕ) where
-  told_here : plain_number n l ≡ 0 → n ≤ length l
-  unfolding plain_number
-  told_here = by_test (λ t. cond t 0 cut_entry ≡ 0 → n ≤ length l) (leb n (length l)) (λ t z. leb-true n (length l) t) (λ t z. absurd (omega arith))
+    by_fields : (x : Read (Values derive_fields))
+        → map_read (λ ws. parts_of (entry_of derive_form ws))
+        (and_then x (λ vs rest. map_read (λ ws. (vs.0, (vs.1.0, (vs.1.1.0, (vs.1.1.1.0, ws))))) (read_fields (handle ∷ number ∷ []) rest)))
+        ≡ and_then (map_read derive_parts x) derive_told
+    by_fields (refused r) = refl
+    by_fields (got vs rest) = by_rest vs (read_fields (handle ∷ number ∷ []) rest)
 
-  told_short : (plain_number n l ≡ 0 → ⊥) → length l < n
-  unfolding plain_number
-  told_short = by_test (λ t. (cond t 0 cut_entry ≡ 0 → ⊥) → length l < n) (leb n (length l)) (λ t ne. absurd (ne refl)) (λ t ne. leb-false n (length l) t)
+-- ---- by the kind's byte
 
--- by the number that is told of the bytes at an index
-module _ (n : ℕ) (s : List ℕ) (at k : ℕ) (e : k ≡ plain_number n (drop at s)) where
-  pub plain_within : 0 < n → k ≡ 0 → at + n ≤ length s
-  plain_within p z = omega (arith, told_here n (drop at s) (sym e ∙ z), length-drop at s)
+kind_form : (o : Option Form) (kind : EntryKind) → Ok kind ≡ kind_told o → o ≡ some (form_by kind)
+kind_form none kind e = let z : ◌≡◌ {A = ℕ} 0 1 = cc in absurd (omega arith)
+kind_form (some f) kind e = let q : kind ≡ kind_by f = cc in rw q (ap some (back f))
+  where
+    back : (f : Form) → f ≡ form_by (kind_by f)
+    back cold_boot_form = refl
+    back update_form = refl
+    back disabling_form = refl
+    back stash_form = refl
+    back extension_form = refl
+    back derive_form = refl
+    back extend_form = refl
+    back rotate_form = refl
+    back destroy_form = refl
 
-  pub plain_bytes_law : k ≡ 0 → plain_bytes n (drop at s) ≡ take n (drop at s)
-  unfolding plain_bytes
-  plain_bytes_law z = rw (le-leb n (length (drop at s)) (told_here n (drop at s) (sym e ∙ z)))
+kind_refused : (o : Option Form) (r : Refusal) → Err r ≡ kind_told o → (r ≡ unlisted_kind) × (o ≡ none)
+kind_refused none r e = (cc, refl)
+kind_refused (some f) r e = let z : ◌≡◌ {A = ℕ} 0 1 = cc in absurd (omega arith)
 
-  pub plain_zeros : (k ≡ 0 → ⊥) → plain_bytes n (drop at s) ≡ zeros n
-  unfolding plain_bytes
-  plain_zeros ne = rw (lt-leb n (length (drop at s)) (told_short n (drop at s) (λ z. ne (e ∙ z))))
+twice : {A B C : Type 0} (f : A → B) (g : B → C) (x : Read A) → map_read g (map_read f x) ≡ map_read (λ v. g (f v)) x
+twice f g (refused r) = refl
+twice f g (got v rest) = refl
 
-  pub plain_got : (b : List ℕ) → b ≡ plain_bytes n (drop at s) → k ≡ 0 → read_field (plain n) (drop at s) ≡ got b (drop (at + n) s)
-  plain_got b f z =
-      rw (le-leb n (length (drop at s)) (told_here n (drop at s) (sym e ∙ z)), f, plain_bytes_law z) (ap (got (take n (drop at s))) (drop-drop n at s))
+module _ (k : ℕ) (l : List ℕ) where
+  parts_of_kind : (kind : EntryKind) → Ok kind ≡ kind_at k → map_read parts_of (read_entry (k ∷ l)) ≡ parts_read (form_by kind) l
+  unfolding kind_at read_entry parts_read
+  parts_of_kind kind e = rw (kind_form (form_at k) kind e) (twice (entry_of (form_by kind)) parts_of (read_fields (fields_of (form_by kind)) l))
 
-  pub plain_not : (k ≡ 0 → ⊥) → read_field (plain n) (drop at s) ≡ refused k
-  plain_not ne =
-      let h : length (drop at s) < n = told_short n (drop at s) (λ z. ne (e ∙ z)) in
-      rw (lt-leb n (length (drop at s)) h) (ap refused (sym (e ∙ plain_short n s at (omega (arith, length-drop at s)))))
+  pub entry_unlisted : (r : Refusal) → Err r ≡ kind_at k → Err r ≡ entry_read (k ∷ l)
+  unfolding kind_at read_entry entry_read
+  entry_unlisted r e = let q = kind_refused (form_at k) r e in rw (q.1, q.0)
 
--- ---- a derive's fields
-
-module _ (s : List ℕ) (at : ℕ) where
-  pub derive_got : (h : List ℕ) (r t : ℕ) (d : List ℕ) (n : ℕ) → read_fields derive_fields (drop at s) ≡ got (h, (r, (t, (d, tt)))) (drop (at + n) s) → at + n ≤ length s
-      → record { number = 0; handle = h; retain = r; node_type = t; digest = d; taken = n } ≡ derive_read (drop at s)
-  unfolding derive_read
-  derive_got h r t d n e w =
-      let q : length (drop at s) - length (drop (at + n) s) ≡ n = omega (arith, length-drop at s, length-drop (at + n) s) in
-      rw (e, q)
-
-  pub derive_refused : (n : ℕ) → read_fields derive_fields (drop at s) ≡ refused n → refused_derive n ≡ derive_read (drop at s)
-  unfolding derive_read
-  derive_refused n e = rw e
-
-derive_told_law : (l : List ℕ) (r : DeriveRead) (x : Read (Values derive_fields)) → Leaves l x → r ≡ derive_told l x → r.number ≡ 0
-    → (x ≡ got (r.handle, (r.retain, (r.node_type, (r.digest, tt)))) (drop r.taken l)) × (r.taken ≤ length l)
-unfolding refused_derive
-derive_told_law l r (refused n) h e z =
-    let q : n ≡ 0 = sym (ap (λ (r : DeriveRead). r.number) e) ∙ z in
-    absurd (⊎_elim (λ k. omega arith) (λ k. omega arith) h)
-derive_told_law l r (got vs rest) h e z = (rw e (ap (got vs) (left_behind l h.0 rest h.1)), rw e (omega arith))
-
-derive_told_not : (l : List ℕ) (r : DeriveRead) (x : Read (Values derive_fields)) → r ≡ derive_told l x → (r.number ≡ 0 → ⊥) → x ≡ refused r.number
-unfolding refused_derive
-derive_told_not l r (refused n) e ne = rw e
-derive_told_not l r (got v rest) e ne = absurd (ne (ap (λ (r : DeriveRead). r.number) e))
-
-module _ (s : List ℕ) (at : ℕ) (r : DeriveRead) (e : r ≡ derive_read (drop at s)) where
-  pub derive_is : r.number ≡ 0 → read_fields derive_fields (drop at s) ≡ got (r.handle, (r.retain, (r.node_type, (r.digest, tt)))) (drop (at + r.taken) s)
-  unfolding derive_read
-  derive_is z =
-      (derive_told_law (drop at s) r (read_fields derive_fields (drop at s)) (fields_leave derive_fields (drop at s)) e z).0
-      ∙ ap (got (r.handle, (r.retain, (r.node_type, (r.digest, tt))))) (drop-drop r.taken at s)
-
-  pub derive_not : (r.number ≡ 0 → ⊥) → read_fields derive_fields (drop at s) ≡ refused r.number
-  unfolding derive_read
-  derive_not ne = derive_told_not (drop at s) r (read_fields derive_fields (drop at s)) e ne
-
-  pub derive_within : at ≤ length s → r.number ≡ 0 → at + r.taken ≤ length s
-  unfolding derive_read
-  derive_within h z =
-      omega (arith, (derive_told_law (drop at s) r (read_fields derive_fields (drop at s)) (fields_leave derive_fields (drop at s)) e z).1, length-drop at s)
-
-  -- behind them in its entry stand the fresh handle and the caller
-  pub derive_then : r.number ≡ 0 → (x : Read (Values (handle ∷ number ∷ []))) → read_fields (handle ∷ number ∷ []) (drop (at + r.taken) s) ≡ x
-      → read_fields (fields_of derive_form) (drop at s) ≡ map_read (λ ws. (r.handle, (r.retain, (r.node_type, (r.digest, ws))))) x
-  derive_then z x q = fields_append derive_fields (handle ∷ number ∷ []) (drop at s) ∙ rw (derive_is z, q)
-
-  pub derive_then_not : (r.number ≡ 0 → ⊥) → read_fields (fields_of derive_form) (drop at s) ≡ refused r.number
-  derive_then_not ne = fields_append derive_fields (handle ∷ number ∷ []) (drop at s) ∙ rw (derive_not ne)
-
--- ---- an entry whose kind is known
-
-module _ (s : List ℕ) (f : Form) (h : 0 < length s) (k : get_or s 0 0 ≡ kind_byte f) where
-  form_read : read_entry s ≡ map_read (entry_of f) (read_fields (fields_of f) (drop 1 s))
-  unfolding read_entry
-  form_read = ap read_entry (at_byte s 0 1 (kind_byte f) h (sym k) refl) ∙ rw (same_form f)
-
-  pub form_got : (vs : Values (fields_of f)) (n : ℕ) → read_fields (fields_of f) (drop 1 s) ≡ got vs (drop n s) → n ≤ length s
-      → record { number = 0; entry = parts_of (entry_of f vs); taken = n } ≡ entry_read s
+  pub entry_refused : (kind : EntryKind) (r : Refusal) → Ok kind ≡ kind_at k → refused r ≡ parts_read (form_by kind) l → Err r ≡ entry_read (k ∷ l)
   unfolding entry_read
-  form_got vs n e w =
-      let d : length s - length (drop n s) ≡ n = omega (arith, length-drop n s) in
-      rw (form_read, e, d)
+  entry_refused kind r e h = ap (taken_of (k ∷ l)) (h ∙ sym (parts_of_kind kind e))
 
-  pub form_refused : (n : ℕ) → read_fields (fields_of f) (drop 1 s) ≡ refused n → refused_entry n ≡ entry_read s
+  pub entry_got : (kind : EntryKind) (p : EntryParts) (rest : List ℕ) (n : ℕ) → Ok kind ≡ kind_at k → got p rest ≡ parts_read (form_by kind) l
+      → n ≡ suc (length l) - length rest → Ok (p, n) ≡ entry_read (k ∷ l)
   unfolding entry_read
-  form_refused n e = rw (form_read, e)
+  entry_got kind p rest n e h q = rw q (ap (taken_of (k ∷ l)) (h ∙ sym (parts_of_kind kind e)))
 
--- a boot of either kind
-module _ (s : List ℕ) (kind : EntryKind) (h : 0 < length s) where
-  pub boot_got : BootKind (get_or s 0 0) kind → (a b : List ℕ) (n : ℕ) → read_fields (digest ∷ digest ∷ []) (drop 1 s) ≡ got (a, (b, tt)) (drop n s) → n ≤ length s
-      → record { number = 0; entry = parts_with kind 0 0 0 0 a b; taken = n } ≡ entry_read s
-  unfolding parts_of
-  boot_got (inl k) a b n e w = rw k.1 (form_got s cold_boot_form h k.0 (a, (b, tt)) n e w)
-  boot_got (inr k) a b n e w = rw k.1 (form_got s update_form h k.0 (a, (b, tt)) n e w)
+-- what is behind the fields is no longer than they and it
+pub parts_fit : (f : Form) (l : List ℕ) (p : EntryParts) (rest : List ℕ) → got p rest ≡ parts_read f l → length rest ≤ length l
+unfolding parts_read
+parts_fit f l p rest e = fits (read_fields (fields_of f) l) (fields_leave (fields_of f) l) e
+  where
+    fits : (x : Read (Values (fields_of f))) → Leaves l x → got p rest ≡ map_read (λ vs. parts_of (entry_of f vs)) x → length rest ≤ length l
+    fits (refused r) h e = let z : ◌≡◌ {A = ℕ} 0 1 = cc in absurd (omega arith)
+    fits (got vs m) h e = let q : rest ≡ m = cc in omega (arith, ap length h.1, length-append h.0 m, ap length q)
 
-  pub boot_refused : BootKind (get_or s 0 0) kind → (n : ℕ) → read_fields (digest ∷ digest ∷ []) (drop 1 s) ≡ refused n → refused_entry n ≡ entry_read s
-  boot_refused (inl k) n e = form_refused s cold_boot_form h k.0 n e
-  boot_refused (inr k) n e = form_refused s update_form h k.0 n e
-
-pub disabling_got : (s : List ℕ) → 0 < length s → get_or s 0 0 ≡ kind_byte disabling_form → record { number = 0; entry = parts_of disabling; taken = 1 } ≡ entry_read s
-unfolding read_fields
-disabling_got s h k = form_got s disabling_form h k tt 1 refl (omega arith)
-
--- ---- the first byte
-
-pub entry_cut : (s : List ℕ) → length s ≡ 0 → refused_entry cut_entry ≡ entry_read s
-unfolding entry_read read_entry
-entry_cut [] h = refl
-entry_cut (b ∷ s) h = absurd (omega arith)
-
-pub entry_unlisted : (s : List ℕ) → 0 < length s → let k = get_or s 0 0 in
-    (k ≡ 1 → ⊥) → (k ≡ 2 → ⊥) → (k ≡ 3 → ⊥) → (k ≡ 4 → ⊥) → (k ≡ 5 → ⊥) → (k ≡ 6 → ⊥) → (k ≡ 7 → ⊥) → (k ≡ 8 → ⊥) → (k ≡ 9 → ⊥)
-    → refused_entry unlisted_kind ≡ entry_read s
-unfolding entry_read read_entry
-entry_unlisted [] h a b c d e f g i j = absurd (omega arith)
-entry_unlisted (k ∷ s) h a b c d e f g i j =
-    rw (ne_eqb k 1 a, ne_eqb k 2 b, ne_eqb k 3 c, ne_eqb k 4 d, ne_eqb k 5 e, ne_eqb k 6 f, ne_eqb k 7 g, ne_eqb k 8 i, ne_eqb k 9 j)
-
--- ---- what the struct says of the reading
+-- ---- what the parts say of the entry
 
 -- two handles in the room of a digest, apart again
 handle_back : (h f : List ℕ) → length h ≡ handle_bytes → handle_part (handles_in h f) ≡ h
@@ -180,7 +110,7 @@ fresh_back h f e k =
     ap (take handle_bytes) (drop_at h (f ++ zeros (48 - 2 * handle_bytes)) handle_bytes e) ∙ take_at f (zeros (48 - 2 * handle_bytes)) handle_bytes k
 
 -- an entry that is read is what its parts are
-parts_entry : (e : Entry) → EntrySized e → entry_in (parts_of e) ≡ e
+pub parts_entry : (e : Entry) → EntrySized e → entry_in (parts_of e) ≡ e
 unfolding entry_in parts_of
 parts_entry (cold_boot r m) z = refl
 parts_entry (update r m) z = refl
@@ -191,34 +121,3 @@ parts_entry (derive h r t d f c) z = rw (handle_back h f z.0, fresh_back h f z.0
 parts_entry (extend h d c) z = rw (handle_back h (zeros handle_bytes) z.0)
 parts_entry (rotate h f c) z = rw (handle_back h f z.0, fresh_back h f z.0 z.1.0)
 parts_entry (destroy h c) z = rw (handle_back h (zeros handle_bytes) z.0)
-
-told_got : (l : List ℕ) (r : EntryRead) (x : Read Entry) → EntryLeaves l x → Says (λ e rest. EntrySized e) x → r ≡ entry_told l x → r.number ≡ 0
-    → (x ≡ got (entry_in r.entry) (drop r.taken l)) × (r.taken ≤ length l)
-unfolding refused_entry
-told_got l r (refused n) h k e z =
-    let q : n ≡ 0 = sym (ap (λ (r : EntryRead). r.number) e) ∙ z in
-    absurd (⊎_elim (λ k. omega arith) (λ k. ⊎_elim (λ k. omega arith) (λ k. omega arith) k) h)
-told_got l r (got v rest) h k e z =
-    (rw e (ap₂ got (sym (parts_entry v k)) (left_behind l h.0 rest h.1)), rw e (omega arith))
-
-told_not : (l : List ℕ) (r : EntryRead) (x : Read Entry) → r ≡ entry_told l x → (r.number ≡ 0 → ⊥) → x ≡ refused r.number
-unfolding refused_entry
-told_not l r (refused n) e ne = rw e
-told_not l r (got v rest) e ne = absurd (ne (ap (λ (r : EntryRead). r.number) e))
-
-module _ (l : List ℕ) (r : EntryRead) (e : r ≡ entry_read l) where
-  pub entry_got : r.number ≡ 0 → (read_entry l ≡ got (entry_in r.entry) (drop r.taken l)) × (r.taken ≤ length l)
-  unfolding entry_read
-  entry_got z = told_got l r (read_entry l) (entry_leaves l) (entry_sized l) e z
-
-  pub entry_not : (r.number ≡ 0 → ⊥) → read_entry l ≡ refused r.number
-  unfolding entry_read
-  entry_not ne = told_not l r (read_entry l) e ne
-
--- ---- what `copying::copy` leaves of a part that fills its target
-pub copied_whole : (s d : List ℕ) (a n m : ℕ) → n ≡ m → m ≤ length s - a → length d ≡ m
-    → take (length (take n (drop a s))) (take n (drop a s)) ++ drop (length (take n (drop a s))) d ≡ take m (drop a s)
-copied_whole s d a n m e h k =
-    let q = take m (drop a s) in
-    let w : length q ≡ m = length-take-le m (drop a s) (omega (arith, length-drop a s)) in
-    rw e (ap₂ (λ (x y : List ℕ). x ++ y) (take_all (length q) q (omega arith)) (drop_of_length-le d {i = length q} (omega arith)) ∙ append-nil q)

@@ -5,8 +5,8 @@ use mathlib.Core.List.{List, [], ◌∷◌, ◌++◌, append_assoc}
 use native.Mathlib.Omega.{arith}
 use native.Mathlib.Nat.{pow-suc}
 use native.Mathlib.Numerals.{add-one}
-use lib.ListN.{length, get_or, take, drop, set, length-set}
-use lib.Seq.{take-suc-set, take-suc, take-length, length-take-le}
+use lib.ListN.{length, take, set, length-set}
+use lib.Seq.{take-suc-set, length-take-le}
 use borrow.Author.Tests.{lt-ltb, le-ltb}
 use Rattle.journal.specs.Numbers.{groups, number_bytes}
 
@@ -58,14 +58,6 @@ pub filling_end : (before : List ℕ) (at x : ℕ) (out : List ℕ) (v i : ℕ) 
 filling_end before at x out v i h k f =
     rw (add-one, take-suc-set out i v h) (ap (λ (t : List ℕ). take i out ++ t) (sym (groups_end f.n v k)) ∙ f.bytes)
 
--- ---- a digest
-
-pub plain_more : (before out d : List ℕ) (at k : ℕ) → at + k < length out → k < length d → take (at + k) out ≡ take at before ++ take k d
-    → take (at + (k + 1)) (set out (at + k) (get_or d k 0)) ≡ take at before ++ take (k + 1) d
-plain_more before out d at k h l e =
-    let s : at + (k + 1) ≡ suc (at + k) = omega arith in
-    rw (s, add-one, take-suc-set out (at + k) (get_or d k 0) h, take-suc d k 0 l, e) (append_assoc (take at before) (take k d) (get_or d k 0 ∷ []))
-
 -- ---- a first byte, and bytes put behind one another
 
 pub one_byte : (out : List ℕ) (k : ℕ) → 0 < length out → take 1 (set out 0 k) ≡ k ∷ []
@@ -74,10 +66,7 @@ one_byte out k h = take-suc-set out 0 k h
 pub joins : {a b y : List ℕ} (x : List ℕ) → a ≡ b ++ x → b ≡ y → a ≡ y ++ x
 joins x p q = p ∙ ap (λ (t : List ℕ). t ++ x) q
 
--- ---- a draft of n bytes, and its copy at the front of a buffer
+-- ---- a draft of n bytes
 
 pub draft_length : (d e : List ℕ) (n : ℕ) → take n d ≡ e → n ≤ length d → length e ≡ n
 draft_length d e n h k = rw (← h) (length-take-le n d k)
-
-pub draft_copied : (q e b : List ℕ) → q ≡ e → take (length q) q ++ drop (length q) b ≡ e ++ drop (length e) b
-draft_copied q e b h = rw h (ap (λ (t : List ℕ). t ++ drop (length e) b) (take-length e))

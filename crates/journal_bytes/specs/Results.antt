@@ -1,19 +1,19 @@
 -- What the functions over byte slices answer, refused or not. Assumes nothing.
-use Rattle.std.specs.Prelude.{ℕ, ◌-◌, ◌*◌, cond, List, ◌++◌, eqb, leb, ltb, length, take, drop}
+use Rattle.std.specs.Prelude.{ℕ, ◌-◌, ◌*◌, cond, List, ◌++◌, eqb, ltb, length, take, drop, Result, Ok, Err}
+use Rattle.std.specs.Borrow.{Bor}
 use Rattle.layout.specs.Sizes.{handle_bytes}
 use Rattle.layout.specs.Words.{zeros}
-use Rattle.layout.specs.Refusals.{cut_entry, short_entry}
-use Rattle.journal.specs.Read.{Read, refused, got}
+use Rattle.layout.specs.declared.refusals.Refusal.{Refusal}
+use Rattle.layout.specs.Numbers.{refusal_number}
+use Rattle.layout.specs.declared.refusals.Refusal.TheVariants.{ShortEntry}
+use Rattle.journal.specs.Read.{Read, refused, got, map_read}
 use Rattle.journal.specs.Numbers.{read_number}
-use Rattle.journal.specs.Fields.{Values, read_fields}
-use Rattle.journal.specs.Entries.{Entry, cold_boot, update, disabling, stash, extension, derive, extend, rotate, destroy, derive_fields, read_entry}
+use Rattle.journal.specs.Fields.{plain, Values, read_field, read_fields}
+use Rattle.journal.specs.Entries.{Entry, cold_boot, update, disabling, stash, extension, derive, extend, rotate, destroy, Form, derive_fields, fields_of, entry_of, read_entry}
 use Rattle.journal_bytes.specs.declared.entry.EntryKind.{EntryKind}
 use Rattle.journal_bytes.specs.declared.entry.EntryKind.TheVariants.{ColdBoot, Update, Disabling, Stash, Extension, Derive, Extend, Rotate, Destroy}
 use Rattle.journal_bytes.specs.declared.entry.EntryParts.{EntryParts}
-use Rattle.journal_bytes.specs.declared.number.NumberRead.{NumberRead}
-use Rattle.journal_bytes.specs.declared.read.DeriveRead.{DeriveRead}
-use Rattle.journal_bytes.specs.declared.read.EntryRead.{EntryRead}
-use Rattle.journal_bytes.specs.declared.write.Taken.{Taken}
+use Rattle.journal_bytes.specs.declared.read.DeriveFields.{DeriveFields}
 
 -- ---- an entry as the code's parts, and the entry that any parts are
 
@@ -57,63 +57,45 @@ entry_by Destroy value svn retain caller first second = destroy (handle_part sec
 unfoldable pub entry_in : EntryParts → Entry
 entry_in p = entry_by p.kind p.value p.svn p.retain p.caller p.first p.second
 
--- ---- reading: the refusal's number, or 0 with the value and the number of bytes that it took
+-- ---- reading: a refusal, or what was read with the bytes behind it
 
-unfoldable pub refused_number : ℕ → NumberRead
-refused_number n = record { number = n; value = 0; taken = 0 }
+abbrev pub read_view : {A : Type 0} → Result (A × Bor (List ℕ)) Refusal → Read A
+read_view (Ok x) = got x.0 x.1.now
+read_view (Err r) = refused r
 
-abbrev pub number_told : List ℕ → Read ℕ → NumberRead
-number_told l (refused n) = refused_number n
-number_told l (got v rest) = record { number = 0; value = v; taken = length l - length rest }
+-- or with the number of bytes that it took
+abbrev pub taken_of : {A : Type 0} → List ℕ → Read A → Result (A × ℕ) Refusal
+taken_of l (refused r) = Err r
+taken_of l (got v rest) = Ok (v, length l - length rest)
 
-unfoldable pub number_read : List ℕ → NumberRead
-number_read l = number_told l (read_number l)
+unfoldable pub number_read : List ℕ → Result (ℕ × ℕ) Refusal
+number_read l = taken_of l (read_number l)
 
--- plain bytes, by their number; refused, zeros
-unfoldable pub plain_number : ℕ → List ℕ → ℕ
-plain_number n l = cond (leb n (length l)) 0 cut_entry
+-- plain bytes of a number, and a derive's fields, as its entry and its request have them
+unfoldable pub bytes_read : ℕ → List ℕ → Read (List ℕ)
+bytes_read n l = read_field (plain n) l
 
-unfoldable pub plain_bytes : ℕ → List ℕ → List ℕ
-plain_bytes n l = cond (leb n (length l)) (take n l) (zeros n)
+abbrev pub derive_parts : Values derive_fields → DeriveFields
+derive_parts vs = record { handle = vs.0; retain = vs.1.0; node_type = vs.1.1.0; digest = vs.1.1.1.0 }
 
--- a derive's fields, as its entry and its request have them
-unfoldable pub refused_derive : ℕ → DeriveRead
-refused_derive n = record { number = n; handle = zeros handle_bytes; retain = 0; node_type = 0; digest = zeros 48; taken = 0 }
+unfoldable pub derive_read : List ℕ → Read DeriveFields
+derive_read l = map_read derive_parts (read_fields derive_fields l)
 
-abbrev pub derive_told : List ℕ → Read (Values derive_fields) → DeriveRead
-derive_told l (refused n) = refused_derive n
-derive_told l (got vs rest) =
-    record {
-      number = 0;
-      handle = vs.0;
-      retain = vs.1.0;
-      node_type = vs.1.1.0;
-      digest = vs.1.1.1.0;
-      taken = length l - length rest;
-    }
+-- what the fields of a form tell
+unfoldable pub parts_read : Form → List ℕ → Read EntryParts
+parts_read f l = map_read (λ vs. parts_of (entry_of f vs)) (read_fields (fields_of f) l)
 
-unfoldable pub derive_read : List ℕ → DeriveRead
-derive_read l = derive_told l (read_fields derive_fields l)
-
--- beside a refusal stand the parts of the entry without fields
-unfoldable pub refused_entry : ℕ → EntryRead
-refused_entry n = record { number = n; entry = parts_of disabling; taken = 0 }
-
-abbrev pub entry_told : List ℕ → Read Entry → EntryRead
-entry_told l (refused n) = refused_entry n
-entry_told l (got e rest) = record { number = 0; entry = parts_of e; taken = length l - length rest }
-
-unfoldable pub entry_read : List ℕ → EntryRead
-entry_read l = entry_told l (read_entry l)
+unfoldable pub entry_read : List ℕ → Result (EntryParts × ℕ) Refusal
+entry_read l = taken_of l (map_read parts_of (read_entry l))
 
 -- ---- writing: bytes into a lent buffer, "then 23, writing nothing, if the buffer is too short"
 
+-- the number of a taking into a buffer of n bytes; success is 0
 unfoldable pub taken_number : List ℕ → ℕ → ℕ
-taken_number bytes n = cond (ltb n (length bytes)) short_entry 0
+taken_number bytes n = cond (ltb n (length bytes)) (refusal_number ShortEntry) 0
 
-unfoldable pub taken_result : List ℕ → List ℕ → Taken
-taken_result bytes buffer =
-    record { number = taken_number bytes (length buffer); written = cond (eqb (taken_number bytes (length buffer)) 0) (length bytes) 0 }
+unfoldable pub taken_result : List ℕ → List ℕ → Result ℕ Refusal
+taken_result bytes buffer = cond (eqb (taken_number bytes (length buffer)) 0) (Ok (length bytes)) (Err ShortEntry)
 
 -- the buffer afterwards: the bytes, and those past them stay; refused, every byte stays
 unfoldable pub taken_buffer : List ℕ → List ℕ → List ℕ

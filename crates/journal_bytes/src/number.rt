@@ -1,117 +1,111 @@
 // Numbers in groups of seven bits, lowest first.
-//
-// A number has at most five bytes, and each is read as a group before what the later ones give: so
-// the last is looked at first, and every sum is 128 times one number and another.
-ghost use Rattle.std.specs.Prelude.{◌≡◌, ℕ, suc, ◌+◌, ◌*◌, ◌≤◌, ◌<◌, length, drop};
-ghost use Rattle.journal_bytes.specs.Results.{refused_number, number_read};
-ghost use Rattle.journal_bytes.specs.Fields.{later_read};
+ghost use Rattle.std.specs.Prelude.{◌≡◌, ◌*◌, ◌^◌, ◌≤◌, ◌<◌, IfOk, drop};
+ghost use Rattle.journal.specs.Numbers.{read_later, read_number};
+ghost use Rattle.journal_bytes.specs.Results.{read_view, number_read};
 
-use layout::refusals::{BAD_NUMBER, CUT_ENTRY};
+use layout::refusals::Refusal;
 
-// `number` is 0, or the refusal's; then the value, and how many bytes it took.
-#[derive(Clone, Copy)]
-pub struct NumberRead {
-    pub number: u32,
-    pub value: u32,
-    pub taken: usize,
+// The fifth group at the front, which is the last.
+#[tactic(auto, unfolding(journal::specs::Numbers::read_later))]
+fn fifth(s: &[u8]) -> Result<(u32, &[u8]), Refusal>
+    ensures value { read_view result ≡ read_later 0 s.now }
+    ensures upper_bound { IfOk result (λ read. read.0 < 16) }
+{
+    let [first, rest @ ..] = s else {
+        return Err(Refusal::CutEntry);
+    };
+    let b = u32::from(*first);
+    if b == 0 || 16 <= b {
+        return Err(Refusal::BadNumber);
+    }
+    Ok((b, rest))
 }
 
-fn wide(b: u8) -> u32
-    ensures value { result ≡ b }
-    ensures upper_bound { result < 256 }
+// The fourth group at the front. It, the third and the second are a function each, and not one that calls itself: the
+// depth of the stack is told from the code (bench/stack).
+#[tactic(auto, unfolding(journal::specs::Numbers::read_later))]
+fn fourth(s: &[u8]) -> Result<(u32, &[u8]), Refusal>
+    ensures value { read_view result ≡ read_later 1 s.now }
+    ensures upper_bound { IfOk result (λ read. read.0 < 16 * 128 ^ 1) }
 {
-    b as u32
-}
-
-fn refused(n: u32) -> NumberRead
-    ensures { result ≡ refused_number n }
-{
-    NumberRead {
-        number: n,
-        value: 0,
-        taken: 0,
-    }
-}
-
-// The fifth byte of a number that begins at an index.
-fn last(s: &[u8], at: usize) -> NumberRead
-    requires { at ≤ length s.now }
-    ensures value { result ≡ later_read 0 (drop (at + 4) s.now) }
-    ensures value_bound { (result.value < 16) × (result.taken ≤ 1) }
-{
-    if s.len() - at <= 4 {
-        return refused(CUT_ENTRY);
-    }
-    let top = wide(s[at + 4]);
-    if top == 0 {
-        return refused(BAD_NUMBER);
-    }
-    if 16 <= top {
-        return refused(BAD_NUMBER);
-    }
-    NumberRead {
-        number: 0,
-        value: top,
-        taken: 1,
-    }
-}
-
-// The byte k places after the first one, before what is read behind it.
-fn later(s: &[u8], at: usize, k: usize, behind: NumberRead) -> NumberRead
-    requires at_in_bounds { at ≤ length s.now }
-    requires value_bound { (behind.value < 33554432) × (behind.taken ≤ 4) }
-    ensures by_index { (n : ℕ) → behind ≡ later_read n (drop (at + (k + 1)) s.now) → result ≡ later_read (suc n) (drop (at + k) s.now) }
-    ensures value_bound_2 { (result.value < 128 * behind.value + 128) × (result.taken ≤ behind.taken + 1) }
-{
-    if s.len() - at <= k {
-        return refused(CUT_ENTRY);
-    }
-    let b = wide(s[at + k]);
+    let [first, rest @ ..] = s else {
+        return Err(Refusal::CutEntry);
+    };
+    let b = u32::from(*first);
     if b == 0 {
-        return refused(BAD_NUMBER);
+        return Err(Refusal::BadNumber);
     }
     if b < 128 {
-        return NumberRead {
-            number: 0,
-            value: b,
-            taken: 1,
-        };
+        return Ok((b, rest));
     }
-    if behind.number != 0 {
-        return refused(behind.number);
-    }
-    NumberRead {
-        number: 0,
-        value: b - 128 + 128 * behind.value,
-        taken: behind.taken + 1,
-    }
+    let (high, rest) = fifth(rest)?;
+    Ok((b - 128 + 128 * high, rest))
 }
 
-// The number at an index. Refused: 21, a byte that could not stand there; 22, the end.
-pub fn read_number(s: &[u8], at: usize) -> NumberRead
+// The third group at the front.
+#[tactic(auto, unfolding(journal::specs::Numbers::read_later))]
+fn third(s: &[u8]) -> Result<(u32, &[u8]), Refusal>
+    ensures value { read_view result ≡ read_later 2 s.now }
+    ensures upper_bound { IfOk result (λ read. read.0 < 16 * 128 ^ 2) }
+{
+    let [first, rest @ ..] = s else {
+        return Err(Refusal::CutEntry);
+    };
+    let b = u32::from(*first);
+    if b == 0 {
+        return Err(Refusal::BadNumber);
+    }
+    if b < 128 {
+        return Ok((b, rest));
+    }
+    let (high, rest) = fourth(rest)?;
+    Ok((b - 128 + 128 * high, rest))
+}
+
+// The second group at the front.
+#[tactic(auto, unfolding(journal::specs::Numbers::read_later))]
+fn second(s: &[u8]) -> Result<(u32, &[u8]), Refusal>
+    ensures value { read_view result ≡ read_later 3 s.now }
+    ensures upper_bound { IfOk result (λ read. read.0 < 16 * 128 ^ 3) }
+{
+    let [first, rest @ ..] = s else {
+        return Err(Refusal::CutEntry);
+    };
+    let b = u32::from(*first);
+    if b == 0 {
+        return Err(Refusal::BadNumber);
+    }
+    if b < 128 {
+        return Ok((b, rest));
+    }
+    let (high, rest) = third(rest)?;
+    Ok((b - 128 + 128 * high, rest))
+}
+
+// The number at the front, and the bytes behind it. Refused: 21, a byte that could not stand there; 22,
+// the end.
+#[tactic(auto, unfolding(journal::specs::Numbers::read_number))]
+pub fn take_number(s: &[u8]) -> Result<(u32, &[u8]), Refusal>
+    ensures { read_view result ≡ read_number s.now }
+{
+    let [first, rest @ ..] = s else {
+        return Err(Refusal::CutEntry);
+    };
+    let b = u32::from(*first);
+    if b < 128 {
+        return Ok((b, rest));
+    }
+    let (high, rest) = second(rest)?;
+    Ok((b - 128 + 128 * high, rest))
+}
+
+// The number at an index, and how many bytes it took. Refused as there.
+pub fn read_number(s: &[u8], at: usize) -> Result<(u32, usize), Refusal>
     ensures { result ≡ number_read (drop at s.now) }
 {
-    if s.len() <= at {
-        return refused(CUT_ENTRY);
+    if s.len() < at {
+        return Err(Refusal::CutEntry);
     }
-    let b = wide(s[at]);
-    if b < 128 {
-        return NumberRead {
-            number: 0,
-            value: b,
-            taken: 1,
-        };
-    }
-    let fifth = last(s, at);
-    let fourth = later(s, at, 3, fifth);
-    let third = later(s, at, 2, fourth);
-    let second = later(s, at, 1, third);
-    if second.number != 0 {
-        return refused(second.number);
-    }
-    NumberRead {
-        number: 0,
-        value: b - 128 + 128 * second.value,
-        taken: second.taken + 1,
-    }
+    let (value, rest) = take_number(&s[at..])?;
+    Ok((value, s.len() - at - rest.len()))
 }

@@ -1,168 +1,50 @@
-// One entry at the front of a byte slice.
-ghost use Rattle.std.specs.Prelude.{◌≡◌, ◌<◌, length, get_or, drop};
-ghost use Rattle.layout.specs.Sizes.{handle_bytes};
-ghost use Rattle.journal.specs.Entries.{disabling, kind_byte, stash_form, extension_form, derive_form, extend_form, rotate_form, destroy_form};
-ghost use Rattle.journal_bytes.specs.Results.{handles_in, parts_of, refused_entry, entry_read, plain_number, plain_bytes, refused_derive, derive_read};
-ghost use Rattle.journal_bytes.specs.Fields.{BootKind};
+// One entry at the front of a byte slice: each part is read with the bytes behind it.
+ghost use Rattle.std.specs.Prelude.{◌≡◌};
+ghost use Rattle.journal.specs.Entries.{stash_form, extension_form, derive_form, extend_form, rotate_form, destroy_form};
+ghost use Rattle.journal_bytes.specs.Kinds.{form_by};
+ghost use Rattle.journal_bytes.specs.Results.{read_view, handles_in, bytes_read, derive_read, parts_read, entry_read};
+ghost use Rattle.journal_bytes.specs.Fields.{boot_read};
 
-use crate::entry::{
-    COLD_BOOT_BYTE, DERIVE_BYTE, DESTROY_BYTE, DIGEST_BYTES, DISABLING_BYTE, EXTEND_BYTE,
-    EXTENSION_BYTE, EntryKind, EntryParts, ROTATE_BYTE, STASH_BYTE, UPDATE_BYTE,
-};
-use crate::number::read_number;
+use crate::entry::{DIGEST_BYTES, EntryKind, EntryParts};
+use crate::number::take_number;
 use layout::HANDLE_BYTES;
-use layout::refusals::{CUT_ENTRY, UNLISTED_KIND};
+use layout::refusals::Refusal;
 
-// `number` is 0, or the refusal's; then the bytes.
+// A derive's fields, which its entry and its request have.
 #[derive(Clone, Copy)]
-pub struct DigestRead {
-    pub number: u32,
-    pub bytes: [u8; DIGEST_BYTES],
-}
-
-#[derive(Clone, Copy)]
-pub struct HandleRead {
-    pub number: u32,
-    pub bytes: [u8; HANDLE_BYTES],
-}
-
-// `number` is 0, or the refusal's; then the fields, and how many bytes they took.
-#[derive(Clone, Copy)]
-pub struct DeriveRead {
-    pub number: u32,
+pub struct DeriveFields {
     pub handle: [u8; HANDLE_BYTES],
     pub retain: u32,
     pub node_type: u32,
     pub digest: [u8; DIGEST_BYTES],
-    pub taken: usize,
 }
 
-// `number` is 0, or the refusal's; then the entry, and how many bytes it took.
-#[derive(Clone, Copy)]
-pub struct EntryRead {
-    pub number: u32,
-    pub entry: EntryParts,
-    pub taken: usize,
-}
-
-// The entry that has no field.
-fn no_fields() -> EntryParts
-    ensures { result ≡ parts_of disabling }
+// The plain bytes at the front, as many as the array has.
+#[tactic(auto, unfolding(crate::specs::Results::bytes_read))]
+pub fn take_bytes<const N: usize>(s: &[u8]) -> Result<([u8; N], &[u8]), Refusal>
+    ensures { read_view result ≡ bytes_read N s.now }
 {
-    let none = [0u8; DIGEST_BYTES];
-    EntryParts {
-        kind: EntryKind::Disabling,
-        value: 0,
-        svn: 0,
-        retain: 0,
-        caller: 0,
-        first: none,
-        second: none,
-    }
+    let (bytes, rest) = s.split_first_chunk::<N>().ok_or(Refusal::CutEntry)?;
+    Ok((*bytes, rest))
 }
 
-fn refused(n: u32) -> EntryRead
-    ensures { result ≡ refused_entry n }
+// A derive's handle, retain, type and digest: the request's data has them behind its first byte, and the
+// entry behind its kind.
+#[tactic(auto, unfolding(crate::specs::Results::derive_read, crate::specs::Results::bytes_read, journal::specs::Fields::read_fields))]
+pub fn take_derive_fields(s: &[u8]) -> Result<(DeriveFields, &[u8]), Refusal>
+    ensures { read_view result ≡ derive_read s.now }
 {
-    let entry = no_fields();
-    EntryRead {
-        number: n,
-        entry,
-        taken: 0,
-    }
-}
-
-// 0 if n bytes stand at an index; refused: 22, fewer.
-fn cut(s: &[u8], at: usize, n: usize) -> u32
-    requires { 0 < n }
-    ensures { result ≡ plain_number n (drop at s.now) }
-{
-    if s.len() < n {
-        return CUT_ENTRY;
-    }
-    if s.len() - n < at {
-        return CUT_ENTRY;
-    }
-    0
-}
-
-// The digest at an index.
-pub fn read_digest(s: &[u8], at: usize) -> DigestRead
-    ensures number_value { result.number ≡ plain_number 48 (drop at s.now) }
-    ensures bytes_value { result.bytes ≡ plain_bytes 48 (drop at s.now) }
-{
-    let number = cut(s, at, DIGEST_BYTES);
-    let mut bytes = [0u8; DIGEST_BYTES];
-    if number != 0 {
-        return DigestRead { number, bytes };
-    }
-    let end = at + DIGEST_BYTES;
-    copying::copy(&s[at..end], &mut bytes);
-    DigestRead { number, bytes }
-}
-
-// The handle at an index.
-pub fn read_handle(s: &[u8], at: usize) -> HandleRead
-    ensures number_value { result.number ≡ plain_number handle_bytes (drop at s.now) }
-    ensures bytes_value { result.bytes ≡ plain_bytes handle_bytes (drop at s.now) }
-{
-    let number = cut(s, at, HANDLE_BYTES);
-    let mut bytes = [0u8; HANDLE_BYTES];
-    if number != 0 {
-        return HandleRead { number, bytes };
-    }
-    let end = at + HANDLE_BYTES;
-    copying::copy(&s[at..end], &mut bytes);
-    HandleRead { number, bytes }
-}
-
-fn refused_derive(n: u32) -> DeriveRead
-    ensures { result ≡ refused_derive n }
-{
-    DeriveRead {
-        number: n,
-        handle: [0u8; HANDLE_BYTES],
-        retain: 0,
-        node_type: 0,
-        digest: [0u8; DIGEST_BYTES],
-        taken: 0,
-    }
-}
-
-// A derive's handle, retain, type and digest at an index: the request's data has them behind its first
-// byte, and the entry behind its kind.
-pub fn read_derive_fields(s: &[u8], at: usize) -> DeriveRead
-    ensures { result ≡ derive_read (drop at s.now) }
-{
-    let handle = read_handle(s, at);
-    if handle.number != 0 {
-        return refused_derive(handle.number);
-    }
-    let retain_at = at + HANDLE_BYTES;
-    let retain = read_number(s, retain_at);
-    if retain.number != 0 {
-        return refused_derive(retain.number);
-    }
-    let type_at = retain_at + retain.taken;
-    let node_type = read_number(s, type_at);
-    if node_type.number != 0 {
-        return refused_derive(node_type.number);
-    }
-    let digest_at = type_at + node_type.taken;
-    let digest = read_digest(s, digest_at);
-    if digest.number != 0 {
-        return refused_derive(digest.number);
-    }
-    let handle_bytes = handle.bytes;
-    let digest_bytes = digest.bytes;
-    DeriveRead {
-        number: 0,
-        handle: handle_bytes,
-        retain: retain.value,
-        node_type: node_type.value,
-        digest: digest_bytes,
-        taken: digest_at + DIGEST_BYTES - at,
-    }
+    let (handle, rest) = take_bytes(s)?;
+    let (retain, rest) = take_number(rest)?;
+    let (node_type, rest) = take_number(rest)?;
+    let (digest, rest) = take_bytes(rest)?;
+    let fields = DeriveFields {
+        handle,
+        retain,
+        node_type,
+        digest,
+    };
+    Ok((fields, rest))
 }
 
 // Two handles, one after the other, in the room of a second digest.
@@ -170,290 +52,157 @@ fn handles(handle: [u8; HANDLE_BYTES], fresh: [u8; HANDLE_BYTES]) -> [u8; DIGEST
     ensures { result ≡ handles_in handle fresh }
 {
     let mut out = [0u8; DIGEST_BYTES];
-    copying::copy(&handle, &mut out);
-    copying::copy(&fresh, &mut out[HANDLE_BYTES..]);
+    out[..HANDLE_BYTES].copy_from_slice(&handle);
+    out[HANDLE_BYTES..2 * HANDLE_BYTES].copy_from_slice(&fresh);
     out
 }
 
 // A boot's two digests.
-fn read_boot(s: &[u8], kind: EntryKind) -> EntryRead
-    requires s_nonzero { 0 < length s.now }
-    requires boot_kind { BootKind (get_or s.now 0 0) kind }
-    ensures { result ≡ entry_read s.now }
+#[tactic(auto, unfolding(crate::specs::Fields::boot_read, crate::specs::Results::bytes_read, journal::specs::Fields::read_fields))]
+fn take_boot(s: &[u8], kind: EntryKind) -> Result<(EntryParts, &[u8]), Refusal>
+    ensures { read_view result ≡ boot_read kind s.now }
 {
-    let runtime = read_digest(s, 1);
-    if runtime.number != 0 {
-        return refused(runtime.number);
-    }
-    let at = 1 + DIGEST_BYTES;
-    let manifest = read_digest(s, at);
-    if manifest.number != 0 {
-        return refused(manifest.number);
-    }
-    let first = runtime.bytes;
-    let second = manifest.bytes;
-    EntryRead {
-        number: 0,
-        entry: EntryParts {
-            kind,
-            value: 0,
-            svn: 0,
-            retain: 0,
-            caller: 0,
-            first,
-            second,
-        },
-        taken: at + DIGEST_BYTES,
-    }
+    let (first, rest) = take_bytes(s)?;
+    let (second, rest) = take_bytes(rest)?;
+    let entry = EntryParts {
+        first,
+        second,
+        ..EntryParts::bare(kind)
+    };
+    Ok((entry, rest))
 }
 
 // A stash's type, digest, svn and caller.
-fn read_stash(s: &[u8]) -> EntryRead
-    requires s_nonzero { 0 < length s.now }
-    requires s_value { get_or s.now 0 0 ≡ kind_byte stash_form }
-    ensures { result ≡ entry_read s.now }
+#[tactic(auto, unfolding(crate::specs::Results::parts_of, crate::specs::Results::parts_read, crate::specs::Results::bytes_read, journal::specs::Fields::read_fields))]
+fn take_stash(s: &[u8]) -> Result<(EntryParts, &[u8]), Refusal>
+    ensures { read_view result ≡ parts_read stash_form s.now }
 {
-    let node_type = read_number(s, 1);
-    if node_type.number != 0 {
-        return refused(node_type.number);
-    }
-    let digest_at = 1 + node_type.taken;
-    let digest = read_digest(s, digest_at);
-    if digest.number != 0 {
-        return refused(digest.number);
-    }
-    let svn_at = digest_at + DIGEST_BYTES;
-    let svn = read_number(s, svn_at);
-    if svn.number != 0 {
-        return refused(svn.number);
-    }
-    let caller_at = svn_at + svn.taken;
-    let caller = read_number(s, caller_at);
-    if caller.number != 0 {
-        return refused(caller.number);
-    }
-    let first = digest.bytes;
-    let none = [0u8; DIGEST_BYTES];
-    EntryRead {
-        number: 0,
-        entry: EntryParts {
-            kind: EntryKind::Stash,
-            value: node_type.value,
-            svn: svn.value,
-            retain: 0,
-            caller: caller.value,
-            first,
-            second: none,
-        },
-        taken: caller_at + caller.taken,
-    }
+    let (value, rest) = take_number(s)?;
+    let (first, rest) = take_bytes(rest)?;
+    let (svn, rest) = take_number(rest)?;
+    let (caller, rest) = take_number(rest)?;
+    let entry = EntryParts {
+        value,
+        first,
+        svn,
+        caller,
+        ..EntryParts::bare(EntryKind::Stash)
+    };
+    Ok((entry, rest))
 }
 
 // An extension's register and digest.
-fn read_extension(s: &[u8]) -> EntryRead
-    requires s_nonzero { 0 < length s.now }
-    requires s_value { get_or s.now 0 0 ≡ kind_byte extension_form }
-    ensures { result ≡ entry_read s.now }
+#[tactic(auto, unfolding(crate::specs::Results::parts_of, crate::specs::Results::parts_read, crate::specs::Results::bytes_read, journal::specs::Fields::read_fields))]
+fn take_extension(s: &[u8]) -> Result<(EntryParts, &[u8]), Refusal>
+    ensures { read_view result ≡ parts_read extension_form s.now }
 {
-    let register = read_number(s, 1);
-    if register.number != 0 {
-        return refused(register.number);
-    }
-    let digest_at = 1 + register.taken;
-    let digest = read_digest(s, digest_at);
-    if digest.number != 0 {
-        return refused(digest.number);
-    }
-    let first = digest.bytes;
-    let none = [0u8; DIGEST_BYTES];
-    EntryRead {
-        number: 0,
-        entry: EntryParts {
-            kind: EntryKind::Extension,
-            value: register.value,
-            svn: 0,
-            retain: 0,
-            caller: 0,
-            first,
-            second: none,
-        },
-        taken: digest_at + DIGEST_BYTES,
-    }
+    let (value, rest) = take_number(s)?;
+    let (first, rest) = take_bytes(rest)?;
+    let entry = EntryParts {
+        value,
+        first,
+        ..EntryParts::bare(EntryKind::Extension)
+    };
+    Ok((entry, rest))
 }
 
 // A derive's fields, the fresh handle and the caller.
-fn read_derive(s: &[u8]) -> EntryRead
-    requires s_nonzero { 0 < length s.now }
-    requires s_value { get_or s.now 0 0 ≡ kind_byte derive_form }
-    ensures { result ≡ entry_read s.now }
+#[tactic(auto, using(crate::proofs::Entries::derive_split), unfolding(crate::specs::Results::bytes_read, journal::specs::Fields::read_fields))]
+fn take_derive(s: &[u8]) -> Result<(EntryParts, &[u8]), Refusal>
+    ensures { read_view result ≡ parts_read derive_form s.now }
 {
-    let fields = read_derive_fields(s, 1);
-    if fields.number != 0 {
-        return refused(fields.number);
-    }
-    let fresh_at = 1 + fields.taken;
-    let fresh = read_handle(s, fresh_at);
-    if fresh.number != 0 {
-        return refused(fresh.number);
-    }
-    let caller_at = fresh_at + HANDLE_BYTES;
-    let caller = read_number(s, caller_at);
-    if caller.number != 0 {
-        return refused(caller.number);
-    }
-    let handle = fields.handle;
-    let fresh_bytes = fresh.bytes;
+    let (fields, rest) = take_derive_fields(s)?;
+    let (fresh, rest) = take_bytes(rest)?;
+    let (caller, rest) = take_number(rest)?;
     let first = fields.digest;
-    let second = handles(handle, fresh_bytes);
-    EntryRead {
-        number: 0,
-        entry: EntryParts {
-            kind: EntryKind::Derive,
-            value: fields.node_type,
-            svn: 0,
-            retain: fields.retain,
-            caller: caller.value,
-            first,
-            second,
-        },
-        taken: caller_at + caller.taken,
-    }
+    let second = handles(fields.handle, fresh);
+    let entry = EntryParts {
+        value: fields.node_type,
+        retain: fields.retain,
+        caller,
+        first,
+        second,
+        ..EntryParts::bare(EntryKind::Derive)
+    };
+    Ok((entry, rest))
 }
 
 // An extend's handle, digest and caller.
-fn read_extend(s: &[u8]) -> EntryRead
-    requires s_nonzero { 0 < length s.now }
-    requires s_value { get_or s.now 0 0 ≡ kind_byte extend_form }
-    ensures { result ≡ entry_read s.now }
+#[tactic(auto, unfolding(crate::specs::Results::parts_of, crate::specs::Results::parts_read, crate::specs::Results::bytes_read, journal::specs::Fields::read_fields, layout::specs::Words::zeros))]
+fn take_extend(s: &[u8]) -> Result<(EntryParts, &[u8]), Refusal>
+    ensures { read_view result ≡ parts_read extend_form s.now }
 {
-    let handle = read_handle(s, 1);
-    if handle.number != 0 {
-        return refused(handle.number);
-    }
-    let digest_at = 1 + HANDLE_BYTES;
-    let digest = read_digest(s, digest_at);
-    if digest.number != 0 {
-        return refused(digest.number);
-    }
-    let caller_at = digest_at + DIGEST_BYTES;
-    let caller = read_number(s, caller_at);
-    if caller.number != 0 {
-        return refused(caller.number);
-    }
-    let handle_bytes = handle.bytes;
-    let first = digest.bytes;
-    let second = handles(handle_bytes, [0u8; HANDLE_BYTES]);
-    EntryRead {
-        number: 0,
-        entry: EntryParts {
-            kind: EntryKind::Extend,
-            value: 0,
-            svn: 0,
-            retain: 0,
-            caller: caller.value,
-            first,
-            second,
-        },
-        taken: caller_at + caller.taken,
-    }
+    let (handle, rest) = take_bytes(s)?;
+    let (first, rest) = take_bytes(rest)?;
+    let (caller, rest) = take_number(rest)?;
+    let second = handles(handle, [0u8; HANDLE_BYTES]);
+    let entry = EntryParts {
+        caller,
+        first,
+        second,
+        ..EntryParts::bare(EntryKind::Extend)
+    };
+    Ok((entry, rest))
 }
 
 // A rotate's handle, fresh handle and caller.
-fn read_rotate(s: &[u8]) -> EntryRead
-    requires s_nonzero { 0 < length s.now }
-    requires s_value { get_or s.now 0 0 ≡ kind_byte rotate_form }
-    ensures { result ≡ entry_read s.now }
+#[tactic(auto, unfolding(crate::specs::Results::parts_of, crate::specs::Results::parts_read, crate::specs::Results::bytes_read, journal::specs::Fields::read_fields))]
+fn take_rotate(s: &[u8]) -> Result<(EntryParts, &[u8]), Refusal>
+    ensures { read_view result ≡ parts_read rotate_form s.now }
 {
-    let handle = read_handle(s, 1);
-    if handle.number != 0 {
-        return refused(handle.number);
-    }
-    let fresh_at = 1 + HANDLE_BYTES;
-    let fresh = read_handle(s, fresh_at);
-    if fresh.number != 0 {
-        return refused(fresh.number);
-    }
-    let caller_at = fresh_at + HANDLE_BYTES;
-    let caller = read_number(s, caller_at);
-    if caller.number != 0 {
-        return refused(caller.number);
-    }
-    let handle_bytes = handle.bytes;
-    let fresh_bytes = fresh.bytes;
-    let second = handles(handle_bytes, fresh_bytes);
-    EntryRead {
-        number: 0,
-        entry: EntryParts {
-            kind: EntryKind::Rotate,
-            value: 0,
-            svn: 0,
-            retain: 0,
-            caller: caller.value,
-            first: [0u8; DIGEST_BYTES],
-            second,
-        },
-        taken: caller_at + caller.taken,
-    }
+    let (handle, rest) = take_bytes(s)?;
+    let (fresh, rest) = take_bytes(rest)?;
+    let (caller, rest) = take_number(rest)?;
+    let second = handles(handle, fresh);
+    let entry = EntryParts {
+        caller,
+        second,
+        ..EntryParts::bare(EntryKind::Rotate)
+    };
+    Ok((entry, rest))
 }
 
 // A destroy's handle and caller.
-fn read_destroy(s: &[u8]) -> EntryRead
-    requires s_nonzero { 0 < length s.now }
-    requires s_value { get_or s.now 0 0 ≡ kind_byte destroy_form }
-    ensures { result ≡ entry_read s.now }
+#[tactic(auto, unfolding(crate::specs::Results::parts_of, crate::specs::Results::parts_read, crate::specs::Results::bytes_read, journal::specs::Fields::read_fields, layout::specs::Words::zeros))]
+fn take_destroy(s: &[u8]) -> Result<(EntryParts, &[u8]), Refusal>
+    ensures { read_view result ≡ parts_read destroy_form s.now }
 {
-    let handle = read_handle(s, 1);
-    if handle.number != 0 {
-        return refused(handle.number);
-    }
-    let caller_at = 1 + HANDLE_BYTES;
-    let caller = read_number(s, caller_at);
-    if caller.number != 0 {
-        return refused(caller.number);
-    }
-    let handle_bytes = handle.bytes;
-    let second = handles(handle_bytes, [0u8; HANDLE_BYTES]);
-    EntryRead {
-        number: 0,
-        entry: EntryParts {
-            kind: EntryKind::Destroy,
-            value: 0,
-            svn: 0,
-            retain: 0,
-            caller: caller.value,
-            first: [0u8; DIGEST_BYTES],
-            second,
-        },
-        taken: caller_at + caller.taken,
+    let (handle, rest) = take_bytes(s)?;
+    let (caller, rest) = take_number(rest)?;
+    let second = handles(handle, [0u8; HANDLE_BYTES]);
+    let entry = EntryParts {
+        caller,
+        second,
+        ..EntryParts::bare(EntryKind::Destroy)
+    };
+    Ok((entry, rest))
+}
+
+// What is behind the byte of a kind.
+fn take_parts(s: &[u8], kind: EntryKind) -> Result<(EntryParts, &[u8]), Refusal>
+    ensures { read_view result ≡ parts_read (form_by kind) s.now }
+{
+    match kind {
+        EntryKind::ColdBoot => take_boot(s, kind),
+        EntryKind::Update => take_boot(s, kind),
+        EntryKind::Disabling => Ok((EntryParts::bare(kind), s)),
+        EntryKind::Stash => take_stash(s),
+        EntryKind::Extension => take_extension(s),
+        EntryKind::Derive => take_derive(s),
+        EntryKind::Extend => take_extend(s),
+        EntryKind::Rotate => take_rotate(s),
+        EntryKind::Destroy => take_destroy(s),
     }
 }
 
-// The entry at the front. Refused: 20, a kind that is not listed; 21, a byte that no number could
-// have there; 22, the end.
-pub fn read_entry(s: &[u8]) -> EntryRead
+// The entry at the front, and how many bytes it took. Refused: 20, a kind that is not listed; 21, a byte
+// that no number could have there; 22, the end.
+pub fn read_entry(s: &[u8]) -> Result<(EntryParts, usize), Refusal>
     ensures { result ≡ entry_read s.now }
 {
-    if s.len() == 0 {
-        return refused(CUT_ENTRY);
-    }
-    let kind = s[0];
-    match kind {
-        COLD_BOOT_BYTE => read_boot(s, EntryKind::ColdBoot),
-        UPDATE_BYTE => read_boot(s, EntryKind::Update),
-        DISABLING_BYTE => {
-            let entry = no_fields();
-            EntryRead {
-                number: 0,
-                entry,
-                taken: 1,
-            }
-        }
-        STASH_BYTE => read_stash(s),
-        EXTENSION_BYTE => read_extension(s),
-        DERIVE_BYTE => read_derive(s),
-        EXTEND_BYTE => read_extend(s),
-        ROTATE_BYTE => read_rotate(s),
-        DESTROY_BYTE => read_destroy(s),
-        _ => refused(UNLISTED_KIND),
-    }
+    let [kind, fields @ ..] = s else {
+        return Err(Refusal::CutEntry);
+    };
+    let (entry, rest) = take_parts(fields, EntryKind::try_from(*kind)?)?;
+    Ok((entry, s.len() - rest.len()))
 }

@@ -6,3 +6,4 @@ pub mod Bounded
 pub mod Blocks
 pub mod Figures
 pub mod Extendable
+pub mod Told

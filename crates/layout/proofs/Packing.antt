@@ -1,13 +1,14 @@
 -- Bytes to words and back (document 01: "packed four to a word, first byte lowest"), both ways. Assumes nothing.
-use Prim.Native.Nat.{ℕ, zero, suc, ◌+◌, ◌*◌, ◌/◌, ◌%◌, ◌^◌, ◌<◌, ◌≤◌}
+use Prim.Native.Nat.{ℕ, zero, suc, ◌+◌, ◌-◌, ◌*◌, ◌/◌, ◌%◌, ◌^◌, ◌<◌, ◌≤◌}
 use mathlib.Core.Path.{◌≡◌, refl, sym, ap, ap₂, ◌∙◌}
-use mathlib.Core.List.{List}
+use mathlib.Core.List.{List, ◌++◌}
 use native.Mathlib.Omega.{arith}
 use native.Mathlib.Nat.{add-zero, zero-add, div-one, div-div-eq-div-mul}
-use lib.ListN.{length, get_or, take, drop, length-drop}
-use lib.Seq.{length-take-le, get_or-take, get_or-drop}
-use Rattle.layout.specs.Words.{le16, le32, byte_of, words_at, bytes_in, part}
-use Rattle.layout.proofs.Tab.{get_d_past, length_tab, get_d_tab, tab_is}
+use native.Mathlib.Decide.{dec_lt}
+use lib.ListN.{length, get_or, take, drop, length-drop, length-append, get_or-append}
+use lib.Seq.{length-take-le, get_or-take, get_or-drop, get_or-append_right}
+use Rattle.layout.specs.Words.{le16, le32, byte_of, words_at, bytes_in, part, zeros}
+use Rattle.layout.proofs.Tab.{get_d_past, length_tab, get_d_tab, tab_is, length_zeros, get_d_zeros}
 
 pub length_words : (n : ℕ) (b : List ℕ) (at : ℕ) → length (words_at n b at) ≡ n
 unfolding words_at
@@ -119,3 +120,14 @@ unfolding part
 part_within n l at h =
     let long : length (take n (drop at l)) ≡ n = length-take-le n (drop at l) (omega (arith, length-drop at l)) in
     tab_is (λ k. get_or l (at + k) 0) (take n (drop at l)) n long (λ i b. sym (get_or-take n (drop at l) i 0 b ∙ get_or-drop at l i 0))
+
+-- and from a shorter list, with zeros behind it
+pub part_padded : (n : ℕ) (l : List ℕ) → length l ≤ n → part n l 0 ≡ l ++ zeros (n - length l)
+unfolding part
+part_padded n l h =
+    tab_is (λ k. get_or l (0 + k) 0) (l ++ zeros (n - length l)) n
+    (length-append l (zeros (n - length l)) ∙ omega (arith, length_zeros (n - length l)))
+    (λ i b. rw zero-add (elim (dec_lt i (length l)) [
+      | yes s ↦ sym (get_or-append l (zeros (n - length l)) 0 i s)
+      | no s ↦ sym (get_d_past l i (omega arith)) ∙ sym (get_or-append_right l (zeros (n - length l)) i 0 (omega arith) ∙ get_d_zeros (n - length l) (i - length l) (omega arith))
+    ]))

@@ -1,6 +1,8 @@
 -- Lists made by a function of the index. Assumes nothing.
 use Prim.Native.Nat.{ℕ, zero, suc, ◌+◌, ◌-◌, ◌<◌, ◌≤◌}
-use mathlib.Core.Path.{◌≡◌, refl, sym, ap, ◌∙◌}
+use mathlib.Core.Path.{◌≡◌, refl, sym, ap, subst, ◌∙◌}
+use denote.Param.Members.{Mut, Called}
+use Rattle.std.specs.Array.{IsFromFnResult, IsFromFnResultFrom}
 use mathlib.Core.List.{List, [], ◌∷◌, ◌++◌}
 use native.Mathlib.Numerals.{add-one}
 use native.Mathlib.Omega.{arith}
@@ -60,3 +62,24 @@ module _ (f : ℕ → ℕ) where
   tab_is l n h e =
       ext_get_or 0 (tab n f) l (length_tab n ∙ sym h)
       (λ i b. let c : i < n = omega (arith, length_tab n) in get_d_tab n i c ∙ e i c)
+
+-- an array made by calls at each index in turn: each call gives h of its index, and changes nothing
+module _ {F : Type 0} (g : Mut F (ℕ × Unit {0}) ℕ) (f : F) (h : ℕ → ℕ) (ys : List ℕ) (n : ℕ) (pure : (i y : ℕ) (q : F) → i < n → Called g f (i, tt) y q → (q ≡ f) × (y ≡ h i)) where
+  calls_give : (m i k : ℕ) → i + m ≡ n → i ≤ k → k < n → (p : F) → p ≡ f → IsFromFnResultFrom g p ys i m → h k ≡ get_or ys k 0
+  calls_give zero i k e a b p s r = absurd (omega arith)
+  calls_give (suc m) i k e a b p s (q, y, at_i, called, rest) =
+      let lt : i < n = omega arith in
+      let one : (q ≡ f) × (y ≡ h i) = pure i y q lt (subst (λ (x : F). Called g x (i, tt) y q) s called) in
+      elim (dec_lt i k) [
+        | yes l ↦ calls_give m (i + 1) k (omega arith) (omega arith) b q one.0 rest
+        | no l ↦ let same : k ≡ i = omega arith in rw same (sym one.1 ∙ sym (at_i.1 0))
+      ]
+
+  pub from_fn_tab : IsFromFnResult g f ys n → ys ≡ tab n h
+  from_fn_tab r = sym (tab_is h ys n r.long (λ k l. calls_give n 0 k (omega arith) (omega arith) l f refl r.each))
+
+-- tables of functions that are the same at each index
+pub tab_same : (n : ℕ) (f g : ℕ → ℕ) → ((k : ℕ) → f k ≡ g k) → tab n f ≡ tab n g
+unfolding tab
+tab_same zero f g e = refl
+tab_same (suc n) f g e = rw (tab_same n f g e, e n)

@@ -3,5 +3,6 @@ pub mod Sizes
 pub mod Words
 pub mod Below
 pub mod Refusals
+pub mod Numbers
 pub mod Geometry
 pub mod Figures

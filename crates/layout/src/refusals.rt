@@ -1,62 +1,93 @@
 // The numbers handed back, by name; success is 0. The same names stand in specs/Refusals.antt.
-pub const WRONG_IMAGE: u32 = 1;
+ghost use Rattle.std.specs.Prelude.{◌≡◌};
+ghost use Rattle.layout.specs.Numbers.{refusal_number};
+ghost use Rattle.layout.specs.Refusals.{decline_number};
 
-pub const UNFINISHED: u32 = 2;
+// Why an entry is refused. Each has its one number.
+#[derive(Clone, Copy, Debug, PartialEq, Eq)]
+pub enum Refusal {
+    WrongImage,
+    Unfinished,
+    UnknownCode,
+    WrongLength,
+    BadChecksum,
+    WrongTable,
+    BadSignature,
+    WrongInputs,
+    StoresLeft,
+    ShortBuffer,
+    NoStoreLeft,
+    NotWellFormed,
+    WrongRegister,
+    AttestationOff,
+    UnlistedKind,
+    BadNumber,
+    CutEntry,
+    ShortEntry,
+    Uncounted,
+}
 
-pub const UNKNOWN_CODE: u32 = 3;
+impl From<Refusal> for u32 {
+    ghost from_gives = { λ r n. n ≡ refusal_number r };
 
-pub const WRONG_LENGTH: u32 = 4;
+    fn from(refusal: Refusal) -> u32 {
+        match refusal {
+            Refusal::WrongImage => 1,
+            Refusal::Unfinished => 2,
+            Refusal::UnknownCode => 3,
+            Refusal::WrongLength => 4,
+            // The letters BCHK.
+            Refusal::BadChecksum => 0x4243484B,
+            Refusal::WrongTable => 5,
+            // The letters BSIG.
+            Refusal::BadSignature => 0x42534947,
+            Refusal::WrongInputs => 6,
+            Refusal::StoresLeft => 7,
+            Refusal::ShortBuffer => 8,
+            Refusal::NoStoreLeft => 9,
+            Refusal::NotWellFormed => 11,
+            Refusal::WrongRegister => 12,
+            Refusal::AttestationOff => 13,
+            Refusal::UnlistedKind => 20,
+            Refusal::BadNumber => 21,
+            Refusal::CutEntry => 22,
+            Refusal::ShortEntry => 23,
+            Refusal::Uncounted => 24,
+        }
+    }
+}
 
-// The letters BCHK.
-pub const BAD_CHECKSUM: u32 = 0x4243484B;
+// Why a stash or a tree command is declined: its dpe result. 0 is accepted.
+#[derive(Clone, Copy, Debug, PartialEq, Eq)]
+pub enum Decline {
+    Full,
+    Off,
+    NoHolder,
+    Malformed,
+    NoHandle,
+    Caller,
+    Fresh,
+    Root,
+    Children,
+}
 
-pub const WRONG_TABLE: u32 = 5;
+impl From<Decline> for u32 {
+    ghost from_gives = { λ d n. n ≡ decline_number d };
 
-// The letters BSIG.
-pub const BAD_SIGNATURE: u32 = 0x42534947;
+    fn from(decline: Decline) -> u32 {
+        match decline {
+            Decline::Full => 1,
+            Decline::Off => 2,
+            Decline::NoHolder => 3,
+            Decline::Malformed => 5,
+            Decline::NoHandle => 6,
+            Decline::Caller => 7,
+            Decline::Fresh => 8,
+            Decline::Root => 9,
+            Decline::Children => 10,
+        }
+    }
+}
 
-pub const WRONG_INPUTS: u32 = 6;
-
-pub const STORES_LEFT: u32 = 7;
-
-pub const SHORT_BUFFER: u32 = 8;
-
-pub const NO_STORE_LEFT: u32 = 9;
-
-pub const NOT_WELL_FORMED: u32 = 11;
-
-pub const WRONG_REGISTER: u32 = 12;
-
-pub const ATTESTATION_OFF: u32 = 13;
-
-// The dpe results of a stash and of a tree command.
+// The dpe result of a stash or a tree command that is accepted.
 pub const DPE_ACCEPTED: u32 = 0;
-
-pub const DPE_FULL: u32 = 1;
-
-pub const DPE_OFF: u32 = 2;
-
-pub const DPE_NO_HOLDER: u32 = 3;
-
-pub const DPE_MALFORMED: u32 = 5;
-
-pub const DPE_NO_HANDLE: u32 = 6;
-
-pub const DPE_CALLER: u32 = 7;
-
-pub const DPE_FRESH: u32 = 8;
-
-pub const DPE_ROOT: u32 = 9;
-
-pub const DPE_CHILDREN: u32 = 10;
-
-// The journal's.
-pub const UNLISTED_KIND: u32 = 20;
-
-pub const BAD_NUMBER: u32 = 21;
-
-pub const CUT_ENTRY: u32 = 22;
-
-pub const SHORT_ENTRY: u32 = 23;
-
-pub const UNCOUNTED: u32 = 24;

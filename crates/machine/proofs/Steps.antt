@@ -5,6 +5,7 @@ use native.Mathlib.Omega.{arith}
 use mathlib.Core.Bool.{Bool, true, false, cond}
 use mathlib.Core.List.{List, [], ◌∷◌}
 use mathlib.Core.Option.{some}
+use Rattle.std.specs.Prelude.{Option, Some, None}
 use lib.Dec.{eqb}
 use lib.ListN.{length}
 use Rattle.work.specs.declared.Work.{Work}
@@ -26,20 +27,22 @@ buffer_in (recorded n w b) = b
 buffer_in no_work = []
 buffer_in cut_off = []
 
-same_buffer : (h : InHand) (r : Report) (x : Result) → ((b : List ℕ) → result_of h r b ≡ x) → (b : List ℕ) → buffer_after x b ≡ b
+same_buffer : (hand : Option InHand) (r : Report) (x : Result) → ((b : List ℕ) → result_of hand r b ≡ x) → (b : List ℕ) → buffer_after x b ≡ b
 unfolding result_of buffer_after buffer_in
-same_buffer h (Refused n) x e b = ap (λ (y : Result). buffer_after y b) (sym (e b))
-same_buffer h (Opened n) x e b = ap (λ (y : Result). buffer_after y b) (sym (e b))
-same_buffer h (Booted o n) x e b = ap (λ (y : Result). buffer_after y b) (sym (e b))
-same_buffer h (Stored n) x e b = ap (λ (y : Result). buffer_after y b) (sym (e b))
-same_buffer h (Answered n w) x e b =
+same_buffer hand (Refused n) x e b = ap (λ (y : Result). buffer_after y b) (sym (e b))
+same_buffer (Some h) (Opened n) x e b = ap (λ (y : Result). buffer_after y b) (sym (e b))
+same_buffer None (Opened n) x e b = ap (λ (y : Result). buffer_after y b) (sym (e b))
+same_buffer (Some h) (Booted o n) x e b = ap (λ (y : Result). buffer_after y b) (sym (e b))
+same_buffer None (Booted o n) x e b = ap (λ (y : Result). buffer_after y b) (sym (e b))
+same_buffer hand (Stored n) x e b = ap (λ (y : Result). buffer_after y b) (sym (e b))
+same_buffer hand (Answered n w) x e b =
     let z : ◌≡◌ {A = List ℕ} [] (0 ∷ []) = ap buffer_in (e [] ∙ sym (e (0 ∷ []))) in
     absurd (omega (arith, ap length z))
-same_buffer h (Recorded n w) x e b =
+same_buffer hand (Recorded n w) x e b =
     let z : ◌≡◌ {A = List ℕ} [] (0 ∷ []) = ap buffer_in (e [] ∙ sym (e (0 ∷ []))) in
     absurd (omega (arith, ap length z))
-same_buffer h NoWork x e b = ap (λ (y : Result). buffer_after y b) (sym (e b))
-same_buffer h CutOff x e b = ap (λ (y : Result). buffer_after y b) (sym (e b))
+same_buffer hand NoWork x e b = ap (λ (y : Result). buffer_after y b) (sym (e b))
+same_buffer hand CutOff x e b = ap (λ (y : Result). buffer_after y b) (sym (e b))
 
 -- with the step, what is said of any buffer
 pub made : (m : Made) (image : List ℕ) (s : Step Machine) → Makes m image s → (b : List ℕ) → (step_of m image b ≡ s) × (b ≡ buffer_after s.result b)
@@ -50,7 +53,7 @@ made m image s e b =
 -- a store: its number decides what is reported
 pub store_step : (w : Work) (boot : Bool) (number left : ℕ) (image buffer : List ℕ)
     → step_of (record {
-      hand = record { present = true; boot = boot; work = w };
+      hand = Some (record { work = w; boot = boot });
       report = cond (eqb number 0) (Stored left) (Refused number);
     }) image buffer
     ≡ record {
@@ -60,7 +63,7 @@ pub store_step : (w : Work) (boot : Bool) (number left : ℕ) (image buffer : Li
 unfolding step_of machine_of hand_of result_of
 store_step w boot number left image buffer = go (eqb number 0)
   where
-    go : (b : Bool) → step_of (record { hand = record { present = true; boot = boot; work = w }; report = cond b (Stored left) (Refused number) }) image buffer
+    go : (b : Bool) → step_of (record { hand = Some (record { work = w; boot = boot }); report = cond b (Stored left) (Refused number) }) image buffer
         ≡ record { state = record { image = image; hand = some (record { work = w; boot = boot }) }; result = cond b (stored left) (refusal number) }
     go true = refl
     go false = refl

@@ -5,9 +5,8 @@
 mod calls;
 
 ghost use Rattle.std.specs.Prelude.{◌≡◌};
-ghost use Rattle.opening.specs.Tasks.{request_of, boot_of};
 ghost use Rattle.history.specs.Calls.{act};
-ghost use Rattle.machine.specs.Call.{machine_of, act_of, step_of, buffer_after};
+ghost use Rattle.machine.specs.Call.{machine_of, request_in, boot_in, op_of, act_of, step_of, buffer_after};
 
 use crate::calls::{
     answer_call, cold_boot_call, cut_call, entry_call, request_call, store_call, update_boot_call,
@@ -15,16 +14,15 @@ use crate::calls::{
 use opening::Outcome;
 use work::Work;
 
-// The work in hand, and whether a boot opened it. Not `present`: none is in hand.
+// A work in hand, and whether a boot opened it.
 #[derive(Clone, Copy)]
 pub struct InHand {
-    pub present: bool,
-    pub boot: bool,
     pub work: Work,
+    pub boot: bool,
 }
 
 // What an act reports: a refusal's number, or what was made, with the stores left; of an answer or a
-// journal entry its number and the bytes written.
+// journal entry its number and the bytes written. Numbers, as the results of demand 3 (`Result`, history/specs/Calls) have them.
 #[derive(Clone, Copy)]
 pub enum Report {
     Refused(u32),
@@ -37,63 +35,80 @@ pub enum Report {
     CutOff,
 }
 
-// The work in hand after an act, and the act's report.
+// The work in hand after an act, if there is one, and the act's report.
 #[derive(Clone, Copy)]
 pub struct Made {
-    pub hand: InHand,
+    pub hand: Option<InHand>,
     pub report: Report,
 }
 
-// The numbers of the acts; any other is a power cut.
-pub const REQUEST: u8 = 0;
+// The acts, in the order of their numbers from 0 on.
+#[derive(Clone, Copy, Debug, PartialEq, Eq)]
+pub enum Op {
+    Request,
+    UpdateBoot,
+    Store,
+    ColdBoot,
+    Answer,
+    Entry,
+    PowerCut,
+}
 
-pub const UPDATE_BOOT: u8 = 1;
+// Every number is an act's: one that no act above has is a power cut too.
+impl From<u8> for Op {
+    ghost from_gives = { λ n op. op ≡ op_of n };
 
-pub const STORE: u8 = 2;
+    fn from(n: u8) -> Op {
+        match n {
+            0 => Op::Request,
+            1 => Op::UpdateBoot,
+            2 => Op::Store,
+            3 => Op::ColdBoot,
+            4 => Op::Answer,
+            5 => Op::Entry,
+            _ => Op::PowerCut,
+        }
+    }
+}
 
-pub const COLD_BOOT: u8 = 3;
+// What a request's opening reads, with ROM's verdict, which an update boot's reads too.
+#[derive(Clone, Copy)]
+pub struct RequestInputs<'a> {
+    pub code: u32,
+    pub bytes: &'a [u8],
+    pub caller: u32,
+    pub handoff: &'a [u8],
+    pub verdict: bool,
+    pub fresh: &'a [u8],
+}
 
-pub const ANSWER: u8 = 4;
+// What a boot's opening reads.
+#[derive(Clone, Copy)]
+pub struct BootInputs<'a> {
+    pub runtime: &'a [u8],
+    pub manifest: &'a [u8],
+    pub secret: &'a [u8],
+}
 
-pub const ENTRY: u8 = 5;
-
-pub const POWER_CUT: u8 = 6;
-
-// One act.
+// One act, by its number.
 pub fn make(
     op: u8,
     image: &mut [u32],
-    hand: InHand,
-    code: u32,
-    bytes: &[u8],
-    caller: u32,
-    handoff: &[u8],
-    verdict: bool,
-    fresh: &[u8],
-    runtime: &[u8],
-    manifest: &[u8],
-    secret: &[u8],
+    hand: Option<InHand>,
+    request: RequestInputs,
+    boot: BootInputs,
     buffer: &mut [u8],
 ) -> Made
-    ensures step_made { step_of result image.new buffer.new ≡ act (machine_of image.old hand) (act_of op (request_of code bytes.now caller handoff.now verdict fresh.now) (boot_of runtime.now manifest.now secret.now) buffer.old) }
-    ensures buffer_left { buffer.new ≡ buffer_after (act (machine_of image.old hand) (act_of op (request_of code bytes.now caller handoff.now verdict fresh.now) (boot_of runtime.now manifest.now secret.now) buffer.old)).result buffer.old }
+    ensures step_made { step_of result image.new buffer.new ≡ act (machine_of image.old hand) (act_of op (request_in request.entry) (boot_in boot.entry) buffer.old) }
+    ensures buffer_left { buffer.new ≡ buffer_after (act (machine_of image.old hand) (act_of op (request_in request.entry) (boot_in boot.entry) buffer.old)).result buffer.old }
 {
-    match op {
-        REQUEST => request_call(
-            &image[..],
-            hand,
-            code,
-            bytes,
-            caller,
-            handoff,
-            verdict,
-            fresh,
-        ),
-        UPDATE_BOOT => update_boot_call(&image[..], hand, runtime, manifest, secret, verdict),
-        STORE => store_call(image, hand),
-        COLD_BOOT => cold_boot_call(&image[..], hand, runtime, manifest, secret),
-        ANSWER => answer_call(hand, buffer),
-        ENTRY => entry_call(hand, buffer),
-        _ => cut_call(hand),
+    match Op::from(op) {
+        Op::Request => request_call(&image[..], hand, request),
+        Op::UpdateBoot => update_boot_call(&image[..], hand, boot, request.verdict),
+        Op::Store => store_call(image, hand),
+        Op::ColdBoot => cold_boot_call(&image[..], hand, boot),
+        Op::Answer => answer_call(hand, buffer),
+        Op::Entry => entry_call(hand, buffer),
+        Op::PowerCut => cut_call(hand),
     }
 }

@@ -14,7 +14,7 @@ unfolding program_output
 used_front xs front e = ap output_of (ap (take input_max) e ∙ take-take input_max input_max xs (omega arith))
 
 -- what was written for the bytes that were read
-pub exchanged : (P : Type 0) (a old new : Option (List ℕ)) (front : List ℕ) (k : ℕ) → k ≡ input_max → IfSome a (λ xs. front ≡ take k xs)
-    → Appends old new (program_output front) → IfSome a (λ xs. P → Appends old new (program_output xs))
-exchanged P None old new front k e f more = tt
-exchanged P (Some xs) old new front k e f more = λ p. subst (Appends old new) (used_front xs front (f ∙ ap (λ (n : ℕ). take n xs) e)) more
+pub exchanged : (a old new : Option (List ℕ)) (front : List ℕ) (k : ℕ) → k ≡ input_max → IfSome a (λ xs. front ≡ take k xs)
+    → Appends old new (program_output front) → IfSome a (λ xs. Appends old new (program_output xs))
+exchanged None old new front k e f more = tt
+exchanged (Some xs) old new front k e f more = subst (Appends old new) (used_front xs front (f ∙ ap (λ (n : ℕ). take n xs) e)) more

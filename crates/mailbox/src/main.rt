@@ -4,67 +4,70 @@
 // on standard output.
 #![tactic(auto)]
 
-ghost use Rattle.std.specs.Prelude.{◌≡◌, IfSome, IsTrue};
+ghost use Rattle.std.specs.Prelude.{◌≡◌, IfSome, OnOk, IsErrOf};
 ghost use Rattle.std.specs.Io.KnownBytes.{Appends};
 ghost use Rattle.respond.specs.Program.{program_output};
-ghost use Rattle.mailbox.specs.declared.Outcome.TheVariants.{Unread, Written};
+ghost use Rattle.mailbox.specs.declared.ExchangeError.TheVariants.{Unread, Unwritten};
 
-use reading::read_whole;
-use respond::INPUT_MAX;
+use reading::{ReadFailed, read_whole};
+use respond::{INPUT_MAX, Response, respond};
 use std::io::{Read, Write};
+use std::{fmt, io};
 
-// Writes the result and the answer of a code and a request, and tells whether that was done.
-fn answer<W: Write>(input: &[u8], out: &mut W) -> bool
-    ensures { IsTrue result → Appends (W.contents out.old) (W.contents out.new) (program_output input.now) }
-{
-    let response = respond::respond(input);
-    let len = response.len;
-    let bytes = response.bytes;
-    out.write_all(&bytes[..len]).is_ok()
-}
-
-// What a run came to.
-#[derive(Clone, Copy)]
-enum Outcome {
-    Written,
+// Why an exchange failed.
+#[derive(Clone, Copy, Debug, PartialEq, Eq)]
+enum ExchangeError {
     Unread,
     Unwritten,
 }
 
+impl fmt::Display for ExchangeError {
+    fn fmt<W: fmt::Write>(&self, f: &mut fmt::Formatter<W>) -> fmt::Result {
+        f.write_str(match self {
+            ExchangeError::Unread => "the input cannot be read: no answer",
+            ExchangeError::Unwritten => "the answer cannot be written",
+        })
+    }
+}
+
+impl From<ReadFailed> for ExchangeError {
+    ghost from_gives = { λ _ e. e ≡ Unread };
+
+    fn from(_failed: ReadFailed) -> ExchangeError {
+        ExchangeError::Unread
+    }
+}
+
+impl From<io::Error> for ExchangeError {
+    ghost from_gives = { λ _ e. e ≡ Unwritten };
+
+    fn from(_failed: io::Error) -> ExchangeError {
+        ExchangeError::Unwritten
+    }
+}
+
+// Writes the result and the answer of a code and a request.
+fn answer<W: Write>(input: &[u8], out: &mut W) -> io::Result<()>
+    ensures { OnOk result (Appends (W.contents out.old) (W.contents out.new) (program_output input.now)) }
+{
+    let Response { len, bytes } = respond(input);
+    out.write_all(&bytes[..len])
+}
+
 // Reads a code and a request, and answers them.
-fn exchange<R: Read, W: Write>(input: &mut R, out: &mut W) -> Outcome
-    ensures written { IfSome (R.remaining input.old) (λ xs. result ≡ Written → Appends (W.contents out.old) (W.contents out.new) (program_output xs)) }
-    ensures silent { result ≡ Unread → out.new ≡ out.old }
+fn exchange<R: Read, W: Write>(input: &mut R, out: &mut W) -> Result<(), ExchangeError>
+    ensures written { IfSome (R.remaining input.old) (λ xs. OnOk result (Appends (W.contents out.old) (W.contents out.new) (program_output xs))) }
+    ensures silent { IsErrOf result ExchangeError.Unread → out.new ≡ out.old }
 {
     let mut space = [0u8; INPUT_MAX];
-    let read = read_whole(input, &mut space);
-    if !read.whole {
-        return Outcome::Unread;
-    }
-    let n = read.count;
-    if !answer(&space[..n], out) {
-        return Outcome::Unwritten;
-    }
-    Outcome::Written
+    let n = read_whole(input, &mut space)?;
+    answer(&space[..n], out)?;
+    Ok(())
 }
 
-// A message on standard error. One that cannot be written either is lost.
-fn complain<W: Write>(errors: &mut W, why: &[u8]) {
-    let _ = errors.write_all(why);
-}
-
+// A message that cannot be written either is lost.
 fn main(rt: HostRuntime) {
-    let mut errors = rt.stderr();
-    match exchange(&mut rt.stdin(), &mut rt.stdout()) {
-        Outcome::Written => {}
-        Outcome::Unread => {
-            complain(
-                &mut errors,
-                b"mailbox: the input cannot be read: no answer\n",
-            );
-        }
-        Outcome::Unwritten => {
-            complain(&mut errors, b"mailbox: the answer cannot be written\n");
-        }
+    if let Err(error) = exchange(&mut rt.stdin(), &mut rt.stdout()) {
+        let _ = writeln!(rt.stderr(), "mailbox: {error}");
     }
 }

@@ -12,10 +12,9 @@ use Rattle.layout.specs.Sizes.{image_words, answer_max}
 use Rattle.layout.specs.Refusals.{no_store_left}
 use Rattle.work.specs.declared.Work.{Work}
 use Rattle.table.specs.declared.Put.{Put}
-use Rattle.work.specs.declared.Stored.{Stored}
 use Rattle.table.specs.Table.{put, number_of}
 use Rattle.work.specs.Entries.{runs_of, put_of}
-use Rattle.work.specs.Entries.{well_shaped, left_of, moved, store_number, store_result, store_image, finished}
+use Rattle.work.specs.Entries.{Stored, well_shaped, left_of, moved, store_given, store_number, store_result, store_image, finished}
 use Rattle.making.specs.Run.{after_stores, all_stores}
 use Rattle.work.proofs.Shape.{shaped_index, shaped_answer, shaped_position, left_position}
 use Rattle.work.proofs.Plans.{apply, plan, length_plan, put_plan}
@@ -24,12 +23,12 @@ use Rattle.work.proofs.Plans.{apply, plan, length_plan, put_plan}
 
 pub store_made : (w : Work) (l : List ℕ) → length l ≡ image_words → 0 < left_of w
     → (store_result w l ≡ record { number = 0; work = moved w }) × (store_image w l ≡ set l (put_of w).address (put_of w).value)
-unfolding store_result store_image store_number
+unfolding store_result store_image store_number store_given
 store_made w l e h = (rw (e, lt-ltb 0 (left_of w) h), rw (e, lt-ltb 0 (left_of w) h))
 
 pub store_refused : (w : Work) (l : List ℕ) → length l ≡ image_words → left_of w ≡ 0
     → (store_result w l ≡ record { number = no_store_left; work = w }) × (store_image w l ≡ l)
-unfolding store_result store_image store_number
+unfolding store_result store_image store_number store_given
 store_refused w l e h = (rw (e, h), rw (e, h))
 
 -- ---- a loop that makes them: its step, and its end

@@ -20,7 +20,7 @@ pub struct Values {
     pub inputs: [u8; INPUT_BYTES],
 }
 
-// An answer: its first `len` bytes; the others are zero.
+// An answer: its first `len` bytes; the others are zero. A fixed buffer with its length, as all here: no heap.
 #[derive(Clone, Copy)]
 pub struct Answer {
     pub bytes: [u8; ANSWER_MAX],

@@ -4,7 +4,7 @@ ghost use Rattle.making.specs.Run.{all_stores};
 
 use work::Work;
 
-// Makes all stores that a work has left, one by one.
+// Makes all stores that a work has left, one by one. On an image of the wrong size each is refused, and both stay.
 pub fn run_all(work: Work, image: &mut [u32]) -> Work
     ensures value { result ≡ (all_stores work image.old).work }
     ensures image_after { image.new ≡ (all_stores work image.old).image }
@@ -12,9 +12,7 @@ pub fn run_all(work: Work, image: &mut [u32]) -> Work
     let n = work.left();
     let mut at = work;
     for i in 0..n {
-        let stored = at.store(image);
-        let next = stored.work;
-        at = next;
+        at = at.store(image).unwrap_or(at);
     }
     at
 }

@@ -4,11 +4,11 @@ use Prim.Native.Nat.{ℕ, ◌+◌, ◌-◌, ◌*◌, ◌^◌, ◌≤◌, ◌<◌
 use native.Mathlib.Omega.{arith}
 use mathlib.Core.List.{List, []}
 use mathlib.Core.Option.{Option, none, some}
-use lib.ListN.{length, get_or, set, take, replicate, length-append}
+use lib.ListN.{length, get_or, set, replicate, length-append}
 use lib.Seq.{sets}
 use Rattle.layout.specs.Sizes.{node_words, register_words, tag_at, handle_at, handle_words, flags_at, current_at, cumulative_at, type_at, locality_at, svn_at}
 use Rattle.layout.specs.Words.{tab, zeros, words_at, words48, flat}
-use Rattle.layout.proofs.Tab.{length_zeros, tab_full, tab_is}
+use Rattle.layout.proofs.Tab.{length_zeros, tab_is}
 use Rattle.layout.proofs.Packing.{length_words}
 use Rattle.layout.proofs.Blocks.{offset, block_at, block_sets}
 use Rattle.tree.specs.Tree.{retired_words}
@@ -142,11 +142,9 @@ module _ (first : ℕ) (handle : List ℕ) (flags type locality svn : ℕ) (curr
   raw_length : length (flat raw) ≡ node_words
   raw_length = simp length-append (omega arith)
 
-  -- a list that was filled with the row's words is the row
-  pub raw_filled : (l : List ℕ) → length l ≡ node_words → take node_words l ≡ tab node_words (λ i. get_or (flat raw) i 0) → l ≡ flat raw
-  raw_filled l h e =
-      let f : ℕ → ℕ = λ i. get_or (flat raw) i 0 in
-      tab_full f l node_words h e ∙ tab_is f (flat raw) node_words raw_length (λ i b. refl)
+  -- the table of the row's words is the row
+  pub raw_filled : tab node_words (λ i. get_or (flat raw) i 0) ≡ flat raw
+  raw_filled = tab_is (λ i. get_or (flat raw) i 0) (flat raw) node_words raw_length (λ i b. refl)
 
 -- ---- a node's new measurements and a new handle, in the places that they have in a node
 

@@ -16,13 +16,7 @@ use slices::little_endian::{pack, read32};
 pub fn handle_words(handle: [u8; HANDLE_BYTES]) -> [u32; HANDLE_WORDS]
     ensures { result ≡ handle_row handle }
 {
-    let mut out = [0u32; HANDLE_WORDS];
-    let mut k = 0;
-    while k < HANDLE_WORDS {
-        out[k] = read32(&handle, 4 * k);
-        k += 1;
-    }
-    out
+    std::array::from_fn(|k| read32(&handle, 4 * k))
 }
 
 // Word j of a node's words, with tag 0.
@@ -82,13 +76,7 @@ fn row_of(
 {
     let now = pack(&current, 0);
     let all = pack(&cumulative, 0);
-    let mut row = [0u32; NODE_WORDS];
-    let mut j = 0;
-    while j < NODE_WORDS {
-        row[j] = row_word(first, handle, flags, now, all, kind, locality, svn, j);
-        j += 1;
-    }
-    row
+    std::array::from_fn(|j| row_word(first, handle, flags, now, all, kind, locality, svn, j))
 }
 
 // The words of a used node with tag 0.
@@ -105,7 +93,7 @@ pub fn node_row(
     ensures { result ≡ node_row (new_node parent handle flags current cumulative kind locality svn) }
 {
     row_of(
-        1 + 65536 * (parent as u32),
+        1 + 65536 * u32::from(parent),
         handle_words(handle),
         flags,
         current,

@@ -3,6 +3,7 @@ use Prim.Native.Nat.{ℕ}
 use mathlib.Core.Path.{◌≡◌, refl, sym}
 use mathlib.Core.Bool.{Bool, true, false, cond, not}
 use mathlib.Core.List.{List, [], ◌∷◌}
+use Rattle.layout.specs.declared.refusals.Refusal.{Refusal}
 use Rattle.opening.specs.Tasks.{Request, Ruling, refused}
 use Rattle.opening.specs.Rules.{Verdict, refuse, decline, Rule, judged, decide, Command, declined, served, ruled}
 
@@ -12,7 +13,7 @@ NoneApply [] = Unit {0}
 NoneApply (r ∷ rs) = (r.applies ≡ false) × NoneApply rs
 
 -- what holds of a refusal, of a decline and, where no rule applies, of the rest holds of what the list comes to
-pub decided : (P : Ruling → Type 0) (rs : List Rule) (D : ℕ → Ruling) (R : Ruling) → ((n : ℕ) → P (refused n)) → ((n : ℕ) → P (D n)) → (NoneApply rs → P R)
+pub decided : (P : Ruling → Type 0) (rs : List Rule) (D : ℕ → Ruling) (R : Ruling) → ((n : Refusal) → P (refused n)) → ((n : ℕ) → P (D n)) → (NoneApply rs → P R)
     → P (decide rs D R)
 decided P [] D R f d o = o tt
 decided P (r ∷ rs) D R f d o = go r.applies r.verdict refl (λ e. decided P rs D R f d (λ n. o (e, n)))
@@ -24,7 +25,7 @@ decided P (r ∷ rs) D R f d o = go r.applies r.verdict refl (λ e. decided P rs
 
 -- the same of a command's request
 pub ruled_decided : (P : Ruling → Type 0) (rs : List Rule) (c : Command) (r : Request)
-    → ((n : ℕ) → P (refused n)) → ((n : ℕ) → P (declined n)) → (NoneApply rs → P (served c r)) → P (ruled rs c r)
+    → ((n : Refusal) → P (refused n)) → ((n : ℕ) → P (declined n)) → (NoneApply rs → P (served c r)) → P (ruled rs c r)
 ruled_decided P rs c r = decided P rs declined (served c r)
 
 -- a rule that asks for the opposite does not apply

@@ -6,6 +6,7 @@ use Rattle.layout.specs.Sizes.{node_count}
 use Rattle.layout.specs.Words.{zeros, tab, words_at}
 use Rattle.layout.specs.Below.{all_below, count_below, first_from}
 use Rattle.tree.specs.Tree.{same_handle, has_handle, is_root, root_ok, child_ok, place_ok, clash, apart_below, leads, leads_if_used, well_formed, node_with, lowest_free, is_child_of, childless, childless_but, goes_too, freed_within, freed_by}
+use Rattle.layout.specs.declared.refusals.Refusal.TheVariants.{NotWellFormed}
 use Rattle.opening.specs.Orders.{unfit}
 use Rattle.opening.specs.Rules.{refuse, decline}
 use Rattle.opening.specs.Grounds.{fresh, two, twice, twice_renamed, full, renamed, full_renamed, chain, chain_gone, GroundCards}
@@ -54,7 +55,7 @@ ground_cards =
       off_formed = refl;
       off_malformed = refl;
       formed = rw twice_formed;
-      formed_malformed = ap (λ (b : Bool). cond (not b) (some (refuse 11)) (some (decline 5))) twice_formed;
+      formed_malformed = ap (λ (b : Bool). cond (not b) (some (refuse NotWellFormed)) (some (decline 5))) twice_formed;
       malformed_data = rw two_formed;
       retain_2 = rw two_formed;
       malformed_handle = rw two_formed;
@@ -81,8 +82,8 @@ ground_cards =
       extended = rw two_formed;
       childless = rw two_formed;
       stash_off = refl;
-      stash_formed = ap (λ (b : Bool). cond (not b) (some (refuse 11)) none) twice_formed;
-      stash_formed_holder = ap (λ (b : Bool). cond (not b) (some (refuse 11)) (some (decline 3))) twice_renamed_formed;
+      stash_formed = ap (λ (b : Bool). cond (not b) (some (refuse NotWellFormed)) none) twice_formed;
+      stash_formed_holder = ap (λ (b : Bool). cond (not b) (some (refuse NotWellFormed)) (some (decline 3))) twice_renamed_formed;
       no_holder = rw renamed_formed;
       no_holder_full = rw full_renamed_formed;
       stash_full = rw full_formed;

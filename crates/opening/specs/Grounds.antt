@@ -4,6 +4,7 @@ use Rattle.std.specs.Prelude.{ℕ, ◌≡◌, Bool, true, false, cond, List, [],
 use Rattle.std.proofs.Math.Option.{Option, none, some}
 use Rattle.layout.specs.Sizes.{node_count, root_mark, internal_flag, root_type}
 use Rattle.layout.specs.Words.{zeros}
+use Rattle.layout.specs.declared.refusals.Refusal.TheVariants.{NotWellFormed}
 use Rattle.tree.specs.Tree.{Place, free_place, Tree, freed_by}
 use Rattle.nodes.specs.Record.{default_handle, retired_handle, handle_row}
 use Rattle.opening.specs.Orders.{NodeCommand, derive, extend, rotate, destroy, malformed}
@@ -83,8 +84,8 @@ pub record GroundCards : Type 0 where
   pub off_formed : asked false twice (extend (handle 1) digest) [] 5 ≡ some (decline 2)
   pub off_malformed : asked false two malformed [] 5 ≡ some (decline 2)
   -- refusal 11, before 5
-  pub formed : asked true twice (extend (handle 1) digest) [] 5 ≡ some (refuse 11)
-  pub formed_malformed : asked true twice malformed [] 5 ≡ some (refuse 11)
+  pub formed : asked true twice (extend (handle 1) digest) [] 5 ≡ some (refuse NotWellFormed)
+  pub formed_malformed : asked true twice malformed [] 5 ≡ some (refuse NotWellFormed)
   -- 5 data malformed, a retain above 1 too; before 6
   pub malformed_data : asked true two malformed [] 5 ≡ some (decline 5)
   pub retain_2 : asked true two (derive (handle 1) 2 7 digest) (handle 3) 5 ≡ some (decline 5)
@@ -119,8 +120,8 @@ pub record GroundCards : Type 0 where
   pub childless : asked true two (destroy (handle 2)) [] 5 ≡ none
   -- a stash: 2, 11, "3, right after 11", 1
   pub stash_off : stashed false twice ≡ some (decline 2)
-  pub stash_formed : stashed true twice ≡ some (refuse 11)
-  pub stash_formed_holder : stashed true twice_renamed ≡ some (refuse 11)
+  pub stash_formed : stashed true twice ≡ some (refuse NotWellFormed)
+  pub stash_formed_holder : stashed true twice_renamed ≡ some (refuse NotWellFormed)
   pub no_holder : stashed true renamed ≡ some (decline 3)
   pub no_holder_full : stashed true full_renamed ≡ some (decline 3)
   pub stash_full : stashed true full ≡ some (decline 1)

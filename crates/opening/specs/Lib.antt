@@ -6,4 +6,5 @@ pub mod Rules
 pub mod Works
 pub mod Recorded
 pub mod Openings
+pub mod Numbers
 pub mod Grounds

@@ -5,6 +5,8 @@ use Rattle.layout.specs.Sizes.{node_count, extendable}
 use Rattle.layout.specs.Words.{le16, le32, bytes4}
 use Rattle.layout.specs.Below.{all_below}
 use Rattle.layout.specs.Refusals as number
+use Rattle.layout.specs.declared.refusals.Refusal.{Refusal}
+use Rattle.layout.specs.declared.refusals.Refusal.TheVariants as refusal
 use Rattle.message.specs.Checksum.{checksum_of}
 use Rattle.tree.specs.Tree.{Tree, default_words, retired_words, same_handle, is_root, well_formed, node_with, lowest_free, childless}
 use Rattle.nodes.specs.Record.{handle_row}
@@ -13,22 +15,23 @@ use Rattle.opening.specs.Tasks.{Request, BootInputs, Measurement, RegisterExtens
 
 -- ---- lists of rules: "the first that applies wins"
 
--- a refusal with its number, or a decline with its dpe result
+-- a refusal, or a decline with its dpe result
 pub data Verdict : Type 0 where
-  refuse decline : ℕ → Verdict
+  refuse : Refusal → Verdict
+  decline : ℕ → Verdict
 
 pub record Rule : Type 0 where
   pub applies : Bool
   pub verdict : Verdict
 
-abbrev pub refuses : ℕ → Bool → Rule
-refuses n b = record { applies = b; verdict = refuse n }
+abbrev pub refuses : Refusal → Bool → Rule
+refuses r b = record { applies = b; verdict = refuse r }
 
 abbrev pub declines : ℕ → Bool → Rule
 declines n b = record { applies = b; verdict = decline n }
 
 abbrev pub judged : (ℕ → Ruling) → Verdict → Ruling
-judged declined (refuse n) = refused n
+judged declined (refuse r) = refused r
 judged declined (decline n) = declined n
 
 -- what a list of rules comes to: `declined` by a decline, `otherwise` where none applies
@@ -114,7 +117,7 @@ data_max = 1024
 abbrev pub stash_rules : View → Measurement → List Rule
 stash_rules v m =
     declines number.dpe_off (not v.on)
-    ∷ refuses number.not_well_formed (not (well_formed node_count v.nodes))
+    ∷ refuses refusal.NotWellFormed (not (well_formed node_count v.nodes))
     ∷ declines number.dpe_no_holder (leb node_count (node_with node_count v.nodes default_words))
     ∷ declines number.dpe_full (leb node_count (lowest_free node_count v.nodes))
     ∷ []
@@ -138,7 +141,7 @@ identity_key =
     record {
       known = true;
       length_ok = λ b. eqb (length b) bare_length;
-      rules = λ v r. refuses number.wrong_table (not (handoff_ok r.handoff)) ∷ [];
+      rules = λ v r. refuses refusal.WrongTable (not (handoff_ok r.handoff)) ∷ [];
       task = λ r. no_stores;
       answer = λ r. take 96 (drop 304 r.handoff);
     }
@@ -149,14 +152,14 @@ verify_signature =
     record {
       known = true;
       length_ok = λ b. eqb (length b) verify_length;
-      rules = λ v r. refuses number.bad_signature (not r.verdict) ∷ [];
+      rules = λ v r. refuses refusal.BadSignature (not r.verdict) ∷ [];
       task = λ r. no_stores;
       answer = λ r. [];
     }
 
 -- 12 for a register outside those that may be extended, "after 12" 13 while off; it does not look at the nodes (document 02, §1)
 abbrev pub extend_rules : View → RegisterExtension → List Rule
-extend_rules v x = refuses number.wrong_register (not (extendable x.register)) ∷ refuses number.attestation_off (not v.on) ∷ []
+extend_rules v x = refuses refusal.WrongRegister (not (extendable x.register)) ∷ refuses refusal.AttestationOff (not v.on) ∷ []
 
 abbrev pub extend_register : Command
 extend_register =
@@ -185,7 +188,7 @@ order_rules t o =
 -- before them, "2 off (then refusal 11)"
 abbrev pub invoke_rules : View → Order → List Rule
 invoke_rules v o =
-    declines number.dpe_off (not v.on) ∷ refuses number.not_well_formed (not (well_formed node_count v.nodes)) ∷ order_rules v.nodes o
+    declines number.dpe_off (not v.on) ∷ refuses refusal.NotWellFormed (not (well_formed node_count v.nodes)) ∷ order_rules v.nodes o
 
 -- "exactly 8 bytes plus the data size, else number 4, as is a size over 1,024"
 abbrev pub invoke_dpe : Command
@@ -231,13 +234,13 @@ ruled rules c r = decide rules declined (served c r)
 -- length and checksum first, and then the command's own rules
 abbrev pub command_rules : Command → View → Request → List Rule
 command_rules c v r =
-    refuses number.wrong_length (not (c.length_ok r.bytes)) ∷ refuses number.bad_checksum (wrong_checksum r.code r.bytes) ∷ c.rules v r
+    refuses refusal.WrongLength (not (c.length_ok r.bytes)) ∷ refuses refusal.BadChecksum (wrong_checksum r.code r.bytes) ∷ c.rules v r
 
 -- "request: .. 2 mark not 1; 3 unknown code; .."
 abbrev pub request_rules : View → Request → List Rule
 request_rules v r =
     let c = command_of r.code in
-    refuses number.unfinished (not v.done) ∷ refuses number.unknown_code (not c.known) ∷ command_rules c v r
+    refuses refusal.Unfinished (not v.done) ∷ refuses refusal.UnknownCode (not c.known) ∷ command_rules c v r
 
 -- a boot's inputs: 48 bytes each, and the secret not all zero
 unfoldable pub inputs_ok : BootInputs → Bool
@@ -245,11 +248,11 @@ inputs_ok x =
     eqb (length x.runtime) 48 && (eqb (length x.manifest) 48 && (eqb (length x.secret) 48 && not (all_below 48 (λ k. eqb (get_or x.secret k 0) 0))))
 
 abbrev pub boot_rules : BootInputs → List Rule
-boot_rules x = refuses number.wrong_inputs (not (inputs_ok x)) ∷ []
+boot_rules x = refuses refusal.WrongInputs (not (inputs_ok x)) ∷ []
 
--- what a boot comes to by a list of rules; "A boot's answer has no bytes."
+-- what a boot comes to by a list of rules, none of which declines; "A boot's answer has no bytes."
 abbrev pub boot_ruling : List Rule → Task → Ruling
-boot_ruling rules t = decide rules refused (accepted t [])
+boot_ruling rules t = decide rules (λ n. refused refusal.WrongInputs) (accepted t [])
 
 -- an update boot's task: a disabling where anything is amiss, "Else ROM's verdict no: kept", else the update
 abbrev pub update_task : Bool → Bool → BootInputs → Task

@@ -1,5 +1,6 @@
 -- What openings are given, and the piece of work that they come to, as raw inputs (document 01, "Mailbox", "Cold boot", "Update boot"). Assumes nothing.
 use Rattle.std.specs.Prelude.{ℕ, Bool, List}
+use Rattle.layout.specs.declared.refusals.Refusal.{Refusal}
 use Rattle.tree.specs.Tree.{Tree}
 use Rattle.opening.specs.Orders.{NodeCommand}
 
@@ -55,9 +56,9 @@ pub data Task : Type 0 where
   extension : RegisterExtension → Task
   invoke : Order → Task
 
--- what an opening decides: a refusal's number, or a task and the bytes of its answer
+-- what an opening decides: a refusal, or a task and the bytes of its answer
 pub data Ruling : Type 0 where
-  refused : ℕ → Ruling
+  refused : Refusal → Ruling
   accepted : Task → List ℕ → Ruling
 
 -- all that the request rules see: is the mark 1, is attestation on, and the nodes

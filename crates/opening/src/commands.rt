@@ -1,4 +1,5 @@
-// The command codes, and the lengths of their requests. The same names stand in specs/Rules.antt.
+// The command codes, and the lengths of their requests. The same names stand in specs/Rules.antt. They stay numbers:
+// C passes them as they are, and `Command::try_from` of `request` matches on them.
 pub const STASH_CODE: u32 = 0x4D454153;
 
 pub const DISABLE_CODE: u32 = 0x4453424C;

@@ -1,10 +1,11 @@
 -- A tree command as the code's struct. Assumes nothing.
-use Rattle.std.specs.Prelude.{ℕ, List, [], ◌∷◌}
+use Rattle.std.specs.Prelude.{ℕ, List, [], ◌∷◌, Option, Some, None}
 use Rattle.layout.specs.Sizes.{handle_bytes}
 use Rattle.layout.specs.Words.{zeros}
 use Rattle.journal.specs.Read.{Read, refused, got}
 use Rattle.journal.specs.Fields.{Values}
-use Rattle.journal.specs.Entries.{derive_fields, extend_fields, handle_fields}
+use Rattle.journal.specs.Entries.{extend_fields, handle_fields}
+use Rattle.journal_bytes.specs.declared.read.DeriveFields.{DeriveFields}
 use Rattle.opening.specs.Orders.{NodeCommand, derive, extend, rotate, destroy, malformed}
 use Rattle.orders.specs.declared.Operation.{Operation}
 use Rattle.orders.specs.declared.Operation.TheVariants.{Derive, Extend, Rotate, Destroy, Malformed}
@@ -35,14 +36,19 @@ command_from o = command_by o.operation o.handle o.retain o.node_type o.digest
 
 -- ---- of the private functions
 
--- fields with nothing behind them, or a malformed command
-unfoldable pub whole_told : {A : Type 0} → Read A → (A → Order) → Order
-whole_told (refused n) told = order_told malformed
-whole_told (got v []) told = told v
-whole_told (got v (b ∷ rest)) told = order_told malformed
+-- the command that was read, or a malformed one
+abbrev pub order_or : Option Order → Order
+order_or None = order_told malformed
+order_or (Some o) = o
 
-abbrev pub derive_order : Values derive_fields → Order
-derive_order vs = order_with Derive vs.0 vs.1.0 vs.1.1.0 vs.1.1.1.0
+-- fields with nothing behind them
+unfoldable pub whole_told : {A : Type 0} → Read A → (A → Order) → Option Order
+whole_told (refused n) told = None
+whole_told (got v []) told = Some (told v)
+whole_told (got v (b ∷ rest)) told = None
+
+abbrev pub derive_order : DeriveFields → Order
+derive_order d = order_with Derive d.handle d.retain d.node_type d.digest
 
 abbrev pub extend_order : Values extend_fields → Order
 extend_order vs = order_with Extend vs.0 0 0 vs.1.0

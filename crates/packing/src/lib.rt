@@ -11,73 +11,42 @@ use layout::REGISTER_WORDS;
 pub fn word(image: &[u32], at: usize) -> u32
     ensures { result ≡ get_or image.now at 0 }
 {
-    if image.len() <= at {
-        return 0;
-    }
-    image[at]
+    image.get(at).copied().unwrap_or(0)
 }
 
-// The word k places after an index. The sum is taken only where it stays below the length.
+// The word k places after an index.
 pub fn word_after(image: &[u32], at: usize, k: usize) -> u32
     ensures { result ≡ get_or image.now (at + k) 0 }
 {
-    if at < image.len() {
-        if k < image.len() - at {
-            return image[at + k];
-        }
-    }
-    0
+    at.checked_add(k).map_or(0, |i| word(image, i))
 }
 
 // The words of a register or a measurement, from an index on.
 fn part12(image: &[u32], at: usize) -> [u32; REGISTER_WORDS]
     ensures { result ≡ part register_words image.now at }
 {
-    let mut out = [0u32; REGISTER_WORDS];
-    let mut k = 0;
-    while k < REGISTER_WORDS {
-        out[k] = word_after(image, at, k);
-        k += 1;
-    }
-    out
+    std::array::from_fn(|k| word_after(image, at, k))
 }
 
 // Byte j of a word, the lowest first; from byte 4 on 0.
 pub fn byte_of(w: u32, j: usize) -> u8
     ensures { result ≡ byte_of w j }
 {
-    match j {
-        0 => (w % 256) as u8,
-        1 => (w / 256 % 256) as u8,
-        2 => (w / 65536 % 256) as u8,
-        3 => (w / 16777216 % 256) as u8,
-        _ => 0,
-    }
+    w.to_le_bytes().get(j).copied().unwrap_or(0)
 }
 
 // The four bytes of a number.
 pub fn four(n: u32) -> [u8; 4]
     ensures { result ≡ bytes4 n }
 {
-    [
-        (n % 256) as u8,
-        (n / 256 % 256) as u8,
-        (n / 65536 % 256) as u8,
-        (n / 16777216 % 256) as u8,
-    ]
+    n.to_le_bytes()
 }
 
 // The 48 bytes of twelve words.
 fn unpack(ws: [u32; REGISTER_WORDS]) -> [u8; 48]
     ensures { result ≡ bytes48 ws }
 {
-    let mut out = [0u8; 48];
-    let mut k = 0;
-    while k < 48 {
-        out[k] = byte_of(ws[k / 4], k % 4);
-        k += 1;
-    }
-    out
+    std::array::from_fn(|k| byte_of(ws[k / 4], k % 4))
 }
 
 // The 48 bytes of twelve words of an image.

@@ -6,6 +6,7 @@ use native.Mathlib.Omega.{arith}
 use mathlib.Core.Bool.{Bool, true, false, cond, not, ◌&&◌, ◌||◌, or-false, or-true, true≢false, false≢true}
 use mathlib.Core.List.{List, [], ◌∷◌, ◌++◌}
 use mathlib.Core.Option.{Option, none, some}
+use Rattle.std.specs.Prelude.{⊤}
 use borrow.Author.Tests.{lt-ltb, not-true, not-false}
 use lib.Dec.{ltb, lit<}
 use lib.ListN.{length}
@@ -26,7 +27,7 @@ use Rattle.opening.specs.Rules.{Rule, inputs_ok, answer_of, command_of, stash_ru
 use Rattle.opening.specs.Works.{work_at}
 use Rattle.opening.specs.Openings.{opened_of, booted_of, open_cold_boot, cold_booted}
 use Rattle.opening.specs.declared.Opened.{Opened}
-use Rattle.opening.specs.declared.Booted.{Booted}
+use Rattle.opening.specs.declared.Outcome.{Outcome}
 use Rattle.opening.proofs.Decided.{NoneApply, ruled_decided}
 use Rattle.history.specs.Ledger.{blank, kind_at, state_of, any, disables, is_disable_command, is_off, view_of}
 use Rattle.history.proofs.Good.{Good, good_cold}
@@ -44,10 +45,10 @@ use Rattle.recount.proofs.Shown.{shown, Reach, unbooted, booted, request_opens, 
 
 -- ---- what an opening makes
 
-abbrev opened_made : List ℕ → Opened → Option (List ℕ)
+abbrev opened_made : List ℕ → Opened ⊤ → Option (List ℕ)
 opened_made l o = cond (is_ready o.status && ltb 0 (left_of o.work)) (some (all_stores o.work l).image) none
 
-abbrev booted_made : List ℕ → Booted → Option (List ℕ)
+abbrev booted_made : List ℕ → Opened Outcome → Option (List ℕ)
 booted_made l o = cond (is_updated o.status) (some (all_stores o.work l).image) none
 
 -- an update boot, from "is it off"

@@ -8,13 +8,13 @@ use mathlib.Core.Option.{Option}
 use lib.ListN.{length, get_or, set, take, drop, replicate, length-set, length-append, length-drop, length-replicate}
 use lib.Seq.{take-append-le, take-append_seam, length-take-le}
 use borrow.Author.Tests.{le-ltb}
+use Rattle.std.proofs.Common.{Ok}
 use Rattle.layout.specs.Sizes.{handle_bytes}
 use Rattle.journal.specs.Entries.{Entry, kind_byte, form_of, fields_of, values_of, entry_bytes, longest}
 use Rattle.journal.specs.Numbers.{groups, number_bytes}
 use Rattle.journal.specs.Fields.{fields_bytes}
 use Rattle.journal.specs.Entries as entry
 use Rattle.journal_bytes.specs.Results.{parts_with, handle_part, fresh_part, entry_in, taken_number, taken_result, taken_buffer}
-use Rattle.journal_bytes.specs.declared.write.Taken.{Taken}
 use Rattle.journal_bytes.specs.declared.entry.EntryParts.{EntryParts}
 use Rattle.journal_bytes.specs.declared.entry.EntryKind.{EntryKind}
 use Rattle.journal_bytes.specs.declared.entry.EntryKind.TheVariants.{ColdBoot, Update, Disabling, Stash, Extension, Derive, Extend, Rotate, Destroy}
@@ -57,14 +57,18 @@ fronts k m tail rest v h =
     let e : suc (length m) - tail ≡ suc (length m - tail) = omega arith in
     rw e (ap (λ (t : List ℕ). v ∷ t) (take-append-le (length m - tail) m rest (omega arith)))
 
-module _ (tail : ℕ) (e : Entry) (short : length (entry_bytes e) ≤ longest) (more : tail < length (entry_bytes e)) (w : Taken) (d : List ℕ)
-    (taken : w ≡ taken_result (entry_bytes e) (replicate 104 0)) (drafted : d ≡ taken_buffer (entry_bytes e) (replicate 104 0)) where
+-- the draft has room for any entry
+pub draft_fits : (e : Entry) → length (entry_bytes e) ≤ longest → taken_result (entry_bytes e) (replicate 104 0) ≡ Ok (length (entry_bytes e))
+unfolding taken_result taken_number
+draft_fits e short = rw (le-ltb 104 (length (entry_bytes e)) short) refl
+
+module _ (tail : ℕ) (e : Entry) (short : length (entry_bytes e) ≤ longest) (more : tail < length (entry_bytes e)) (n : ℕ) (d : List ℕ)
+    (taken : Ok n ≡ taken_result (entry_bytes e) (replicate 104 0)) (drafted : d ≡ taken_buffer (entry_bytes e) (replicate 104 0)) where
   rest : List ℕ
   rest = drop (length (entry_bytes e)) (replicate 104 0)
 
-  all_written : w.written ≡ length (entry_bytes e)
-  unfolding taken_result taken_number
-  all_written = ap (λ (t : Taken). t.written) taken ∙ rw (le-ltb 104 (length (entry_bytes e)) short)
+  all_written : n ≡ length (entry_bytes e)
+  all_written = let q : Ok n ≡ Ok (length (entry_bytes e)) = taken ∙ draft_fits e short in cc
 
   draft_written : d ≡ entry_bytes e ++ rest
   unfolding taken_buffer taken_number rest
@@ -82,22 +86,22 @@ module _ (tail : ℕ) (e : Entry) (short : length (entry_bytes e) ≤ longest) (
   unfolding entry_bytes
   kind_there h = rw draft_written h
 
-  pub tail_there : tail ≤ w.written
+  pub tail_there : tail ≤ n
   tail_there = omega (arith, all_written)
 
   abbrev changed : List ℕ
   changed = set d 0 (get_or d 0 0 - 5)
 
-  pub front_there : w.written - tail ≤ length changed
+  pub front_there : n - tail ≤ length changed
   front_there = omega (arith, all_written, length-set d 0 (get_or d 0 0 - 5), draft_long)
 
-  pub front_long : length (take (w.written - tail) changed) ≡ w.written - tail
-  front_long = length-take-le (w.written - tail) changed front_there
+  pub front_long : length (take (n - tail) changed) ≡ n - tail
+  front_long = length-take-le (n - tail) changed front_there
 
-  pub front_short : length (take (w.written - tail) changed) ≤ longest
+  pub front_short : length (take (n - tail) changed) ≤ longest
   front_short = omega (arith, front_long, all_written)
 
-  pub front_data : take (w.written - tail) changed ≡ data_within tail e
+  pub front_data : take (n - tail) changed ≡ data_within tail e
   unfolding entry_bytes data_within
   front_data =
       rw (all_written, draft_written)

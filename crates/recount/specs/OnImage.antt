@@ -1,24 +1,21 @@
 -- An entry's work made on an image by the unit's own openings and stores: the image afterwards, and none where the unit counts no such work there.
 -- Defined for every image. Assumes nothing.
-use Rattle.std.specs.Prelude.{ℕ, Bool, true, false, cond, ◌&&◌, List, [], ltb}
+use Rattle.std.specs.Prelude.{ℕ, ⊤, Result, Ok, Err, Bool, true, false, cond, ◌&&◌, List, [], ltb}
 use Rattle.std.proofs.Math.Option.{Option, none, some}
+use Rattle.layout.specs.declared.refusals.Refusal.{Refusal}
 use Rattle.work.specs.Entries.{left_of}
 use Rattle.making.specs.Run.{all_stores}
 use Rattle.journal.specs.Entries.{Entry, cold_boot, update, disabling, stash, extension, derive, extend, rotate, destroy}
 use Rattle.opening.specs.Tasks.{Request, BootInputs}
 use Rattle.opening.specs.Openings.{open_request, open_cold_boot, open_update_boot}
-use Rattle.opening.specs.declared.Status.{Status}
-use Rattle.opening.specs.declared.Status.TheVariants as status
 use Rattle.opening.specs.declared.Outcome.{Outcome}
 use Rattle.opening.specs.declared.Outcome.TheVariants.{Cold, Kept, Updated, Disabled}
-use Rattle.opening.specs.declared.BootStatus.{BootStatus}
-use Rattle.opening.specs.declared.BootStatus.TheVariants as boot_status
 use Rattle.replaying.specs.Replay.{boot_from}
 use Rattle.replaying.specs.Asked.{stash_asked, extension_asked, disable_asked, invoke_asked, derive_data, extend_data, rotate_data, destroy_data}
 
-abbrev pub is_ready : Status → Bool
-is_ready status.Ready = true
-is_ready (status.Refused n) = false
+abbrev pub is_ready : Result ⊤ Refusal → Bool
+is_ready (Ok u) = true
+is_ready (Err r) = false
 
 -- a request that is served: "A measurement declined .. stores nothing"
 unfoldable pub request_made : List ℕ → Request → Option (List ℕ)
@@ -32,9 +29,9 @@ is_update Kept = false
 is_update Updated = true
 is_update Disabled = false
 
-abbrev pub is_updated : BootStatus → Bool
-is_updated (boot_status.Ready o) = is_update o
-is_updated (boot_status.Refused n) = false
+abbrev pub is_updated : Result Outcome Refusal → Bool
+is_updated (Ok o) = is_update o
+is_updated (Err r) = false
 
 -- an update boot that comes to an update, and not to a disabling
 unfoldable pub update_made : List ℕ → BootInputs → Option (List ℕ)
@@ -42,9 +39,9 @@ update_made image x =
     let o = open_update_boot image x true in
     cond (is_updated o.status) (some (all_stores o.work image).image) none
 
-abbrev pub is_booted : BootStatus → Bool
-is_booted (boot_status.Ready o) = true
-is_booted (boot_status.Refused n) = false
+abbrev pub is_booted : Result Outcome Refusal → Bool
+is_booted (Ok o) = true
+is_booted (Err r) = false
 
 unfoldable pub cold_made : List ℕ → BootInputs → Option (List ℕ)
 cold_made image x =

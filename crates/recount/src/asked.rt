@@ -14,7 +14,9 @@ use opening::commands::{
 };
 use packing::four;
 
-// Where a request's fields are.
+// A request's checksum is in front, and its fields are behind it.
+const SUM_BYTES: usize = 4;
+
 const VALUE_AT: usize = 4;
 
 const DIGEST_AT: usize = 8;
@@ -31,7 +33,7 @@ const ROOM: usize = 112;
 // The kinds of entries before those of the tree commands 1 to 4.
 const KINDS_BEFORE: u8 = 5;
 
-// A tree command's request. Bytes past its length do not count.
+// A tree command's request. Bytes past its length do not count: the memory is fixed, with no heap.
 #[derive(Clone, Copy)]
 pub(crate) struct TreeRequest {
     pub(crate) bytes: [u8; ROOM],
@@ -43,7 +45,7 @@ fn put(out: &mut [u8], at: usize, s: &[u8])
     requires { at + length s.now ≤ length out.old }
     ensures { out.new ≡ take at out.old ++ (s.now ++ drop (at + length s.now) out.old) }
 {
-    copying::copy(s, &mut out[at..]);
+    out[at..at + s.len()].copy_from_slice(s);
 }
 
 // Puts the checksum of the bytes behind its field in front.
@@ -52,7 +54,7 @@ fn seal(code: u32, out: &mut [u8])
     ensures { out.new ≡ sealed code (drop 4 out.old) }
 {
     let sum = four(message::checksum(code, &out[4..]));
-    copying::copy(&sum, out);
+    out[..SUM_BYTES].copy_from_slice(&sum);
 }
 
 pub(crate) fn disable_bytes() -> [u8; BARE_LENGTH]
@@ -111,21 +113,10 @@ pub(crate) fn tree_bytes(entry: EntryParts, tail: usize) -> TreeRequest
     ensures bytes_value { take result.length result.bytes ≡ sealed invoke_code (bytes4 (length (data_within tail (entry_in (without_caller entry)))) ++ data_within tail (entry_in (without_caller entry))) }
     ensures length_in_bounds { result.length ≤ length result.bytes }
 {
-    let kind = entry.kind;
-    let first = entry.first;
-    let second = entry.second;
-    let bare = EntryParts {
-        kind,
-        value: entry.value,
-        svn: entry.svn,
-        retain: entry.retain,
-        caller: 0,
-        first,
-        second,
-    };
+    let bare = EntryParts { caller: 0, ..entry };
     let mut draft = [0u8; LONGEST];
-    let taken = write_entry(bare, &mut draft);
-    draft[0] = draft[0] - KINDS_BEFORE;
-    let end = taken.written - tail;
+    let length = write_entry(bare, &mut draft).unwrap();
+    draft[0] -= KINDS_BEFORE;
+    let end = length - tail;
     framed(&draft[..end])
 }

@@ -14,8 +14,8 @@ use boot::update::open_update_boot;
 use journal_bytes::entry::{DIGEST_BYTES, EntryKind, EntryParts};
 use layout::HANDLE_BYTES;
 use making::run::run_all;
+use opening::Outcome;
 use opening::commands::{DISABLE_CODE, EXTEND_CODE, INVOKE_CODE, STASH_CODE};
-use opening::{BootStatus, Outcome, Status};
 use request::open::open_request;
 
 // An entry has no secret, and registers and nodes do not depend on it: any that a boot takes does.
@@ -35,18 +35,13 @@ fn count_cold(image: &mut [u32], runtime: [u8; DIGEST_BYTES], manifest: [u8; DIG
     ensures image_after { image.new ≡ image_after (cold_made image.old (boot_from runtime manifest)) image.old }
 {
     let secret = ANY_SECRET;
-    boot_cold(image, &runtime, &manifest, &secret) == 0
+    boot_cold(image, &runtime, &manifest, &secret).is_ok()
 }
 
 fn is_update(outcome: Outcome) -> bool
     ensures { result ≡ is_update outcome }
 {
-    match outcome {
-        Outcome::Cold => false,
-        Outcome::Kept => false,
-        Outcome::Updated => true,
-        Outcome::Disabled => false,
-    }
+    matches!(outcome, Outcome::Updated)
 }
 
 // An update boot that comes to an update: all its stores.
@@ -60,15 +55,13 @@ fn count_update(
 {
     let secret = ANY_SECRET;
     let booted = open_update_boot(image, &runtime, &manifest, &secret, true);
-    let status = booted.status;
-    let BootStatus::Ready(outcome) = status else {
+    let Ok(outcome) = booted.status else {
         return false;
     };
     if !is_update(outcome) {
         return false;
     }
-    let work = booted.work;
-    run_all(work, image);
+    run_all(booted.work, image);
     true
 }
 
@@ -78,8 +71,7 @@ fn count_request(image: &mut [u32], code: u32, bytes: &[u8], caller: u32, fresh:
     ensures image_after { image.new ≡ image_after (request_made image.old (request_of code bytes.now caller [] false fresh.now)) image.old }
 {
     let opened = open_request(image, code, bytes, caller, &[], false, fresh);
-    let status = opened.status;
-    let Status::Ready = status else {
+    let Ok(()) = opened.status else {
         return false;
     };
     let work = opened.work;

@@ -7,76 +7,86 @@
 // order is not proved here.
 #![tactic(auto)]
 
-ghost use Rattle.std.specs.Prelude.{◌≡◌};
-ghost use Rattle.inspection.specs.Stages.{stage_of, told, told_in};
+ghost use Rattle.std.specs.Prelude.{◌≡◌, IfOk, IsErrOf};
 ghost use Rattle.replay.specs.Fed.{TellsPieces};
+ghost use Rattle.replay.specs.declared.ReplayError.TheVariants.{Unread, Unwritten};
 
 use inspection::feed::feed;
 use inspection::finish::{Told, finish};
-use inspection::reader::{IMAGE_BYTES, JOURNAL_MAX, Reader, begin};
+use inspection::reader::{IMAGE_BYTES, JOURNAL_MAX, begin};
 use layout::IMAGE_WORDS;
-use reading::read_whole;
+use reading::{ReadFailed, read_whole};
 use std::io::{Read, Write};
+use std::{fmt, io};
 
 // The bytes of a piece; and how many pieces hold all bytes that are used.
 const PIECE: usize = 65536;
 
 const PIECES: usize = (IMAGE_BYTES + JOURNAL_MAX) / PIECE + 1;
 
-// What the input came to: whether it could be read to its end, and what is told of it.
-#[derive(Drop)]
-struct Input {
-    whole: bool,
-    told: Told,
+// Why a replay failed.
+#[derive(Clone, Copy, Debug, PartialEq, Eq)]
+enum ReplayError {
+    Unread,
+    Unwritten,
 }
 
-fn ended(whole: bool, reader: Reader, saved: &[u8], scratch: &[u32]) -> Input
-    ensures { result.told ≡ told_in (told (stage_of reader saved.now scratch.now)) }
-{
-    let told = finish(reader, saved, scratch);
-    Input { whole, told }
+impl fmt::Display for ReplayError {
+    fn fmt<W: fmt::Write>(&self, f: &mut fmt::Formatter<W>) -> fmt::Result {
+        f.write_str(match self {
+            ReplayError::Unread => "the input cannot be read: no verdict",
+            ReplayError::Unwritten => "the verdict cannot be written",
+        })
+    }
 }
 
-// Feeds the input. A piece that is not full is the last; behind a refusal, which stays, and behind
-// the bytes that are used, nothing is read.
-fn take_input<R: Read>(input: &mut R) -> Input
-    ensures { TellsPieces result.told }
+impl From<ReadFailed> for ReplayError {
+    ghost from_gives = { λ _ e. e ≡ Unread };
+
+    fn from(_failed: ReadFailed) -> ReplayError {
+        ReplayError::Unread
+    }
+}
+
+impl From<io::Error> for ReplayError {
+    ghost from_gives = { λ _ e. e ≡ Unwritten };
+
+    fn from(_failed: io::Error) -> ReplayError {
+        ReplayError::Unwritten
+    }
+}
+
+// Feeds the input, and says what is told of it. A piece that is not full is the last; behind a refusal,
+// which stays, and behind the bytes that are used, nothing is read.
+fn take_input<R: Read>(input: &mut R) -> Result<Told, ReadFailed>
+    ensures { IfOk result TellsPieces }
 {
     let mut space = [0u8; PIECE];
     let mut saved = [0u8; IMAGE_BYTES];
     let mut scratch = [0u32; IMAGE_WORDS];
     let mut reader = begin();
     for i in 0..PIECES {
-        let read = read_whole(input, &mut space);
-        let n = read.count;
-        let next = feed(reader, &mut saved, &mut scratch, &space[..n]);
-        reader = next;
-        if !read.whole || (n < PIECE || next.number != 0) {
-            return ended(read.whole, reader, &saved, &scratch);
+        let n = read_whole(input, &mut space)?;
+        reader = feed(reader, &mut saved, &mut scratch, &space[..n]);
+        if n < PIECE || reader.refusal.is_some() {
+            break;
         }
     }
-    ended(true, reader, &saved, &scratch)
+    Ok(finish(reader, &saved, &scratch))
 }
 
-// One that cannot be written either is lost.
-fn complain<W: Write>(errors: &mut W, why: &[u8]) {
-    let _ = errors.write_all(why);
+// Replays the input, and writes what is told.
+fn replay<R: Read, W: Write>(input: &mut R, out: &mut W) -> Result<(), ReplayError>
+    ensures silent { IsErrOf result ReplayError.Unread → out.new ≡ out.old }
+{
+    let told = take_input(input)?;
+    out.write_all(&told.bytes[..told.len])?;
+    Ok(())
 }
 
+// A message that cannot be written either is lost.
 fn main(rt: HostRuntime) {
-    let mut errors = rt.stderr();
-    let input = take_input(&mut rt.stdin());
-    if !input.whole {
-        complain(
-            &mut errors,
-            b"replay: the input cannot be read: no verdict\n",
-        );
-        return;
-    }
-    let told = input.told;
-    let len = told.len;
-    let bytes = told.bytes;
-    if !rt.stdout().write_all(&bytes[..len]).is_ok() {
-        complain(&mut errors, b"replay: the verdict cannot be written\n");
+    if let Err(error) = replay(&mut rt.stdin(), &mut rt.stdout()) {
+        let _ = writeln!(rt.stderr(), "replay: {error}");
     }
 }

@@ -20,6 +20,7 @@ use Rattle.journal.proofs.Says.{Says}
 use Rattle.journal.proofs.Fields.{FieldsAre, fields_say}
 use Rattle.tree.specs.Tree.{Tree}
 use Rattle.opening.specs.Orders.{NodeCommand, derive, extend, rotate, destroy, malformed, whole, command_in, traits_of, fresh_for, unfit}
+use Rattle.layout.specs.declared.refusals.Refusal.TheVariants as refusal
 use Rattle.opening.specs.Tasks.{BootInputs, Request, Ruling, refused, accepted, View}
 use Rattle.opening.specs.Rules.{Command, stash_measurement, disable_attestation, identity_key, verify_signature, extend_register, invoke_dpe, unknown_command, command_of, stash_code, disable_code, identity_code, verify_code, extend_code, invoke_code, served, request_rules, inputs_ok, boot_rules, boot_ruling, update_task}
 use Rattle.opening.specs.Recorded.{entry_ordered, entry_for, entries_for}
@@ -134,7 +135,7 @@ module _ (v : View) (r : Request) (bytes : Bytes r.bytes) (caller : r.caller < 2
 
 boot_fits : (intact verdict : Bool) (x : BootInputs) → RulingFits (boot_ruling (boot_rules x) (update_task intact verdict x))
 boot_fits intact verdict x =
-    decided RulingFits (boot_rules x) refused _ (λ n. tt) (λ n. tt) (λ n. go intact verdict (digests_long x (negated (inputs_ok x) n.0)))
+    decided RulingFits (boot_rules x) (λ n. refused refusal.WrongInputs) _ (λ n. tt) (λ n. tt) (λ n. go intact verdict (digests_long x (negated (inputs_ok x) n.0)))
   where
     go : (i v : Bool) → (length x.runtime ≡ 48) × (length x.manifest ≡ 48) → RulingFits (accepted (update_task i v x) [])
     go true true d = ((d.0, (d.1, tt)), tt)

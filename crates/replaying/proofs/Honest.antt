@@ -11,6 +11,7 @@ use Rattle.tree.specs.Tree.{Tree}
 use Rattle.journal.specs.Entries.{Entry}
 use Rattle.journal.specs.Entries as entry
 use Rattle.opening.specs.Orders.{NodeCommand, derive, extend, rotate, destroy, malformed, command_in, fresh_for}
+use Rattle.layout.specs.declared.refusals.Refusal.TheVariants as refusal
 use Rattle.opening.specs.Tasks.{BootInputs, Measurement, RegisterExtension, Order, Request, Task, no_stores, kept_boot, disable_command, disabling_boot, stash, update, cold_boot, extension, invoke, Ruling, refused, accepted, View}
 use Rattle.opening.specs.Rules.{Rule, Command, stash_measurement, disable_attestation, identity_key, verify_signature, extend_register, invoke_dpe, unknown_command, command_of, stash_code, disable_code, identity_code, verify_code, extend_code, invoke_code, measurement_in, extension_in, stash_rules, extend_rules, invoke_rules, served, request_rules, boot_rules, boot_ruling, update_task}
 use Rattle.opening.specs.Recorded.{entry_ordered, entry_for, entries_for}
@@ -180,7 +181,7 @@ request_joins h t u r =
 boot_joins : (h : List Task) (t verdict : Bool) (b : BootInputs) → RulingOk h (boot_ruling (boot_rules b) (update_task (not (is_off h t)) verdict b))
 unfolding next_chain
 boot_joins h t verdict b =
-    decided (RulingOk h) (boot_rules b) refused _ (λ n. tt) (λ n. tt) (λ n. go (is_off h t) refl verdict)
+    decided (RulingOk h) (boot_rules b) (λ n. refused refusal.WrongInputs) _ (λ n. tt) (λ n. tt) (λ n. go (is_off h t) refl verdict)
   where
     go : (o : Bool) → is_off h t ≡ o → (v : Bool) → RulingOk h (accepted (update_task (not o) v b) [])
     go true e v = entry_joins h disabling_boot entry.disabling refl (λ x a. a.booted) (λ c. sym (or-true c)) (λ x. refl)

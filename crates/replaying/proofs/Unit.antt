@@ -11,11 +11,13 @@ use lib.Seq.{take-append_seam}
 use borrow.Author.Tests.{le-ltb, ne_eqb, eqb-true}
 use Rattle.layout.specs.Sizes.{image_words}
 use Rattle.layout.specs.Words.{zeros}
-use Rattle.layout.specs.Refusals.{wrong_image, wrong_inputs, stores_left, short_buffer, short_entry}
+use Rattle.layout.specs.Numbers.{refusal_number}
+use Rattle.layout.specs.Refusals.{stores_left, short_buffer, short_entry}
+use Rattle.layout.specs.declared.refusals.Refusal.TheVariants as refusal
 use Rattle.layout.proofs.Tab.{length_zeros}
 use Rattle.journal.specs.Entries.{Entry, entry_bytes, journal_bytes, longest}
 use Rattle.journal.specs.Entries as entry
-use Rattle.journal_bytes.specs.Results.{taken_number, taken_buffer}
+use Rattle.journal_bytes.specs.Results.{taken_number, taken_result, taken_buffer}
 use Rattle.work.specs.declared.Work.{Work}
 use Rattle.work.specs.Entries.{finished}
 use Rattle.work.specs.Recorded.{entries_of, entry_number, entry_result, entry_buffer}
@@ -170,7 +172,7 @@ module _ (b : Ledger) (x : Step Machine) where
   entry_quiet (some j) k a = go (ltb k j.stores) (journal_bytes (entry_for j.task)) (ltb (length a) (length (journal_bytes (entry_for j.task))))
     where
       go : (p : Bool) (l : List ℕ) (q : Bool)
-          → is_last (cond p (recorded stores_left 0 a) (cond q (recorded short_entry 0 a) (recorded 0 (length l) (l ++ drop (length l) a)))) ≡ false
+          → is_last (cond p (recorded stores_left 0 a) (cond q (recorded (refusal_number short_entry) 0 a) (recorded 0 (length l) (l ++ drop (length l) a)))) ≡ false
       go true l q = refl
       go false l true = refl
       go false l false = refl
@@ -211,16 +213,16 @@ unfolding open_cold_boot
 cold_opened before x e = go (eqb (length before) image_words) refl (inputs_ok x) refl e
   where
     go : (a : Bool) → eqb (length before) image_words ≡ a → (b : Bool) → inputs_ok x ≡ b
-        → boot_number (booted_of before (cond (not a) (refused wrong_image) (cond (not b) (refused wrong_inputs) (accepted (cold_boot x) [])))).status ≡ 0
+        → boot_number (booted_of before (cond (not a) (refused refusal.WrongImage) (cond (not b) (refused refusal.WrongInputs) (accepted (cold_boot x) [])))).status ≡ 0
         → (length before ≡ image_words) × (inputs_ok x ≡ true)
-        × ((booted_of before (cond (not a) (refused wrong_image) (cond (not b) (refused wrong_inputs) (accepted (cold_boot x) [])))).work ≡ work_at before (cold_boot x) [])
+        × ((booted_of before (cond (not a) (refused refusal.WrongImage) (cond (not b) (refused refusal.WrongInputs) (accepted (cold_boot x) [])))).work ≡ work_at before (cold_boot x) [])
     go true p true q n = (eqb-true (length before) image_words p, q, refl)
     go true p false q n = absurd (omega arith)
     go false p b q n = absurd (omega arith)
 
 -- a finished work's entry
 taken_finished : (w : Work) → finished w ≡ true → length (journal_bytes (entries_of w)) ≤ longest → taken_from w ≡ journal_bytes (entries_of w)
-unfolding entry_result entry_buffer entry_number taken_number taken_buffer
+unfolding entry_result entry_buffer entry_number taken_number taken_result taken_buffer
 taken_finished w f h =
     rw (f, le-ltb (length (zeros longest)) (length (journal_bytes (entries_of w))) (omega (arith, length_zeros longest)))
     (take-append_seam (journal_bytes (entries_of w)) (drop (length (journal_bytes (entries_of w))) (zeros longest)))

@@ -3,8 +3,9 @@ use Rattle.std.specs.Prelude.{ℕ, ◌+◌, ◌-◌, ◌*◌, ◌^◌, Bool, con
 use Rattle.layout.specs.Sizes.{image_words, registers_at, register_words, current_register}
 use Rattle.layout.specs.Words.{bytes4, bytes8, words_at, flat}
 use Rattle.layout.specs.Below.{all_below}
-use Rattle.layout.specs.Refusals.{wrong_image}
+use Rattle.layout.specs.declared.refusals.Refusal.TheVariants.{WrongImage}
 use Rattle.history.specs.Ledger.{Chain, register_rows, node_rows}
+use Rattle.layout.specs.Numbers.{refusal_number}
 use Rattle.journal.specs.Journal.{Walked, stopped, ended}
 use Rattle.replaying.specs.Replay.{Replay, replay}
 
@@ -31,7 +32,7 @@ verdict image x =
 
 -- "It writes number (4 bytes, 0 if none) and offset (8, or 0), little endian; unless refused, one byte .."
 abbrev pub report : List ℕ → Walked Replay → List ℕ
-report image (stopped n at) = bytes4 n ++ bytes8 at
+report image (stopped n at) = bytes4 (refusal_number n) ++ bytes8 at
 report image (ended x) = bytes4 0 ++ (bytes8 0 ++ verdict image x)
 
 -- the bytes of an image
@@ -46,5 +47,5 @@ journal_max = 2 ^ 32
 unfoldable pub output : List ℕ → List ℕ
 output input =
     cond (ltb (length input) image_bytes)
-    (bytes4 wrong_image ++ bytes8 0)
+    (bytes4 (refusal_number WrongImage) ++ bytes8 0)
     (report (words_at image_words input 0) (replay (take journal_max (drop image_bytes input))))

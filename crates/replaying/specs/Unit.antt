@@ -6,7 +6,7 @@ use Rattle.layout.specs.Words.{zeros, bytes4, bytes8, words_at}
 use Rattle.journal.specs.Entries.{journal_bytes, longest}
 use Rattle.journal.specs.Statements.{Bytes}
 use Rattle.work.specs.declared.Work.{Work}
-use Rattle.work.specs.Recorded.{entry_result, entry_buffer}
+use Rattle.work.specs.Recorded.{taking_bytes, entry_result, entry_buffer}
 use Rattle.making.specs.Run.{all_stores}
 use Rattle.opening.specs.Tasks.{BootInputs}
 use Rattle.opening.specs.Recorded.{entries_for}
@@ -21,7 +21,7 @@ use Rattle.replaying.specs.Lives.{CallsOk, Life, LifeOk, LivesOk, history_of, en
 
 -- a work's entry, taken into a buffer that has room for any
 abbrev pub taken_from : Work → List ℕ
-taken_from w = let buffer = zeros longest in take (entry_result w buffer).written (entry_buffer w buffer)
+taken_from w = let buffer = zeros longest in take (taking_bytes (entry_result w buffer)) (entry_buffer w buffer)
 
 -- a store was made, and none is left
 abbrev pub is_last : Result → Bool

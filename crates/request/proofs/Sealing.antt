@@ -1,11 +1,11 @@
 -- An answer in its buffer: the rest is copied behind eight zero bytes, and the checksum goes to the front. Assumes nothing.
 use Prim.Native.Nat.{ℕ, ◌+◌, ◌-◌, ◌≤◌}
-use mathlib.Core.Path.{◌≡◌, ap, ap₂, ◌∙◌}
-use mathlib.Core.List.{List, [], ◌++◌, append-nil}
+use mathlib.Core.Path.{◌≡◌, ap, ◌∙◌}
+use mathlib.Core.List.{List, ◌++◌}
 use native.Mathlib.Omega.{arith}
 use lib.ListN.{length, take, drop, replicate, length-append, length-replicate}
-use lib.Seq.{take_all, take_at}
-use borrow.Rule.Slice.PartMut.{mid_of, put_mid}
+use lib.Seq.{take_at}
+use borrow.Rule.Slice.PartMut.{put_mid}
 use Rattle.layout.specs.Sizes.{answer_max}
 use Rattle.layout.specs.Words.{bytes4, zeros}
 use Rattle.layout.proofs.Tab.{drop_zeros}
@@ -17,17 +17,16 @@ use Rattle.opening.specs.Rules.{answer_of}
 abbrev zs : ℕ → List ℕ
 zs n = replicate n 0
 
-module _ (rest o : List ℕ) (room : length rest + 8 ≤ answer_max)
-    (eo : o ≡ take (length rest) rest ++ drop (length rest) (mid_of 8 (answer_max - 8) (replicate answer_max 0))) where
+-- `o` is the part that was copied, of k bytes
+module _ (rest o : List ℕ) (k : ℕ) (room : length rest + 8 ≤ answer_max) (ek : k ≡ length rest) (eo : o ≡ rest) where
   -- the buffer after the copy
   abbrev space : List ℕ
-  space = put_mid 8 (answer_max - 8) (replicate answer_max 0) o
+  space = put_mid 8 k (replicate answer_max 0) o
 
   copied : space ≡ bytes4 0 ++ (bytes4 0 ++ (rest ++ replicate (answer_max - 8 - length rest) 0))
   copied =
-      ap (λ (l : List ℕ). bytes4 0 ++ (bytes4 0 ++ (l ++ [])))
-      (eo ∙ ap₂ (λ (a b : List ℕ). a ++ b) (take_all (length rest) rest (omega arith)) (drop_zeros (length rest) (answer_max - 8) (omega arith)))
-      ∙ ap (λ (l : List ℕ). bytes4 0 ++ (bytes4 0 ++ l)) (append-nil (rest ++ replicate (answer_max - 8 - length rest) 0))
+      (λ i. put_mid 8 (ek i) (replicate answer_max 0) (eo i))
+      ∙ ap (λ (l : List ℕ). bytes4 0 ++ (bytes4 0 ++ (rest ++ l))) (drop_zeros (length rest) (answer_max - 8) (omega arith))
 
   pub whole_length : answer_max ≡ length space
   whole_length =

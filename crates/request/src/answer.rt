@@ -1,4 +1,4 @@
-// An answer's bytes (checksum, FIPS status 0, and the rest), and the openings that carry one.
+// An answer's bytes (checksum, FIPS status 0, and the rest), and the works that carry one.
 ghost use Rattle.std.specs.Prelude.{◌≡◌, ◌++◌, ◌+◌, ◌-◌, ◌≤◌, length, take, drop};
 ghost use Rattle.layout.specs.Sizes.{answer_max};
 ghost use Rattle.layout.specs.Words.{bytes4};
@@ -8,10 +8,9 @@ ghost use Rattle.opening.specs.Rules.{answer_of};
 
 use layout::ANSWER_MAX;
 use making::{Answer, Values, new_work, no_values};
-use opening::works::ready;
-use opening::{Opened, Status};
 use packing::four;
 use table::Kind;
+use work::Work;
 
 // Puts in front the checksum of the bytes behind its field, up to `end`, with the code taken as zero.
 fn put_checksum(out: &mut [u8], end: usize)
@@ -19,7 +18,7 @@ fn put_checksum(out: &mut [u8], end: usize)
     ensures { out.new ≡ bytes4 (checksum_of 0 (take (end - 4) (drop 4 out.old))) ++ drop 4 out.old }
 {
     let sum = four(message::checksum(0, &out[4..end]));
-    copying::copy(&sum, out);
+    out[..4].copy_from_slice(&sum);
 }
 
 fn sealed(rest: &[u8]) -> Answer
@@ -28,7 +27,7 @@ fn sealed(rest: &[u8]) -> Answer
 {
     let end = rest.len() + 8;
     let mut out = [0u8; ANSWER_MAX];
-    copying::copy(rest, &mut out[8..]);
+    out[8..end].copy_from_slice(rest);
     put_checksum(&mut out, end);
     Answer {
         bytes: out,
@@ -37,25 +36,24 @@ fn sealed(rest: &[u8]) -> Answer
 }
 
 // A request is ready: a work of which no store is made, with its answer.
-pub(crate) fn ready_with(kind: Kind, values: Values, rest: &[u8]) -> Opened
+pub(crate) fn ready_with(kind: Kind, values: Values, rest: &[u8]) -> Work
     requires { length rest.now + 8 ≤ answer_max }
-    ensures { result ≡ record { work = work_with kind values (answer_of rest.now); status = Status.Ready } }
+    ensures { result ≡ work_with kind values (answer_of rest.now) }
 {
-    ready(new_work(kind, values, sealed(rest)))
+    new_work(kind, values, sealed(rest))
 }
 
 // The same with a work that stores no prepared word.
-pub(crate) fn ready_plain(kind: Kind, rest: &[u8]) -> Opened
+pub(crate) fn ready_plain(kind: Kind, rest: &[u8]) -> Work
     requires { length rest.now + 8 ≤ answer_max }
-    ensures { result ≡ record { work = plain_work kind (answer_of rest.now); status = Status.Ready } }
+    ensures { result ≡ plain_work kind (answer_of rest.now) }
 {
     ready_with(kind, no_values(), rest)
 }
 
 // A request is declined: nothing to store, and its dpe result in the answer.
-pub(crate) fn declined(res: u32) -> Opened
-    ensures { result ≡ record { work = plain_work Kind.Nothing (answer_of (bytes4 res)); status = Status.Ready } }
+pub(crate) fn declined(res: u32) -> Work
+    ensures { result ≡ plain_work Kind.Nothing (answer_of (bytes4 res)) }
 {
-    let dpe = four(res);
-    ready_plain(Kind::Nothing, &dpe)
+    ready_plain(Kind::Nothing, &four(res))
 }

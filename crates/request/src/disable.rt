@@ -5,11 +5,12 @@ ghost use Rattle.opening.specs.Rules.{disable_attestation, disable_code};
 ghost use Rattle.request.specs.Screen.{screened_opened};
 
 use crate::answer::ready_plain;
-use opening::Opened;
+use layout::refusals::Refusal;
 use table::Kind;
+use work::Work;
 
-pub(crate) fn serve_disable(image: &[u32]) -> Opened
+pub(crate) fn serve_disable(image: &[u32]) -> Result<Work, Refusal>
     ensures { result ≡ screened_opened disable_attestation image.now (request_of disable_code [] 0 [] false []) }
 {
-    ready_plain(Kind::Disabling, &[])
+    Ok(ready_plain(Kind::Disabling, &[]))
 }

@@ -8,15 +8,14 @@ ghost use Rattle.request.specs.Screen.{screened_opened};
 
 use crate::answer::ready_with;
 use crate::register::extended_register;
-use layout::refusals::{ATTESTATION_OFF, WRONG_REGISTER};
+use layout::refusals::Refusal;
 use layout::registers::may_extend;
 use layout::{ATTESTATION_AT, NODE_WORDS, REGISTER_WORDS};
 use making::Values;
-use opening::works::refused;
-use opening::{Opened, Status};
 use slices::little_endian::read32;
 use slices::strings::{bytes_of, joined};
 use table::Kind;
+use work::Work;
 
 // Where the request's fields are.
 const REGISTER_FROM: usize = 4;
@@ -37,7 +36,7 @@ fn extension_values(image: &[u32], bytes: &[u8], register: usize) -> Values
 {
     let digest = bytes_of(bytes, DIGEST_FROM);
     let words = extended_register(image, register, digest);
-    let inputs = joined(digest, [0u8; 48]);
+    let inputs = joined(&digest, &[0u8; 48]);
     Values {
         register: words,
         journey: [0u32; REGISTER_WORDS],
@@ -48,25 +47,25 @@ fn extension_values(image: &[u32], bytes: &[u8], register: usize) -> Values
 }
 
 // An accepted extension.
-fn accepted(image: &[u32], bytes: &[u8], register: usize) -> Opened
+fn accepted(image: &[u32], bytes: &[u8], register: usize) -> Work
     requires { (length bytes.now ≡ extend_length) × (extendable register ≡ true) × (register ≡ (extension_in (request_of extend_code bytes.now 0 [] false [])).register) }
-    ensures { result ≡ record { work = work_at image.now (extension (extension_in (request_of extend_code bytes.now 0 [] false []))) (answer_of []); status = Status.Ready } }
+    ensures { result ≡ work_at image.now (extension (extension_in (request_of extend_code bytes.now 0 [] false []))) (answer_of []) }
 {
     let values = extension_values(image, bytes, register);
     ready_with(Kind::Extension(register), values, &[])
 }
 
 // The command, once length and checksum are fine.
-pub(crate) fn serve_extend(image: &[u32], bytes: &[u8]) -> Opened
+pub(crate) fn serve_extend(image: &[u32], bytes: &[u8]) -> Result<Work, Refusal>
     requires { (length image.now ≡ image_words) × (length bytes.now ≡ extend_length) }
     ensures { result ≡ screened_opened extend_register image.now (request_of extend_code bytes.now 0 [] false []) }
 {
     let register = register_in(bytes);
     if !may_extend(register) {
-        return refused(WRONG_REGISTER);
+        return Err(Refusal::WrongRegister);
     }
     if image[ATTESTATION_AT] != 1 {
-        return refused(ATTESTATION_OFF);
+        return Err(Refusal::AttestationOff);
     }
-    accepted(image, bytes, register)
+    Ok(accepted(image, bytes, register))
 }

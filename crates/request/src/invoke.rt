@@ -6,21 +6,19 @@ ghost use Rattle.opening.specs.Tasks.{request_of, invoke};
 ghost use Rattle.opening.specs.Rules.{answer_of, invoke_dpe, invoke_code};
 ghost use Rattle.opening.specs.Works.{work_at};
 ghost use Rattle.grounds.specs.Ground.{order_of};
-ghost use Rattle.request.specs.Screen.{command_screen, screened_opened};
+ghost use Rattle.request.specs.Screen.{screened_opened};
 
 use crate::answer::{declined, ready_with};
-use crate::screen::screen;
 use grounds::ground;
 use invoking::plan_order;
 use layout::ATTESTATION_AT;
-use layout::refusals::{DPE_ACCEPTED, DPE_OFF, NOT_WELL_FORMED, WRONG_LENGTH};
-use opening::commands::{DATA_MAX, INVOKE_CODE};
-use opening::works::refused;
-use opening::{Opened, Status};
+use layout::refusals::{DPE_ACCEPTED, Decline, Refusal};
+use opening::commands::DATA_MAX;
 use orders::{Order, read_order};
 use packing::four;
 use slices::little_endian::read32;
 use tree::formed::well_formed;
+use work::Work;
 
 // Where the data's size and the data are.
 const SIZE_FROM: usize = 4;
@@ -28,7 +26,7 @@ const SIZE_FROM: usize = 4;
 const DATA_FROM: usize = 8;
 
 // Whether the request is as long as its data's size says, and the data not too long.
-fn length_ok(bytes: &[u8]) -> bool
+pub(crate) fn length_ok(bytes: &[u8]) -> bool
     ensures { result ≡ invoke_dpe.length_ok bytes.now }
 {
     if bytes.len() < DATA_FROM {
@@ -41,19 +39,9 @@ fn length_ok(bytes: &[u8]) -> bool
     bytes.len() == DATA_FROM + size
 }
 
-// Length and checksum.
-pub(crate) fn screen_invoke(bytes: &[u8]) -> Status
-    ensures { result ≡ command_screen invoke_code bytes.now }
-{
-    if !length_ok(bytes) {
-        return Status::Refused(WRONG_LENGTH);
-    }
-    screen(INVOKE_CODE, bytes, bytes.len())
-}
-
 // An accepted command.
-fn accepted(image: &[u32], order: Order, fresh: &[u8], caller: u32) -> Opened
-    ensures { result ≡ record { work = work_at image.now (invoke (order_of order fresh.now caller)) (answer_of (bytes4 0)); status = Status.Ready } }
+fn accepted(image: &[u32], order: Order, fresh: &[u8], caller: u32) -> Work
+    ensures { result ≡ work_at image.now (invoke (order_of order fresh.now caller)) (answer_of (bytes4 0)) }
 {
     let planned = plan_order(image, order, fresh, caller);
     let kind = planned.kind;
@@ -63,20 +51,24 @@ fn accepted(image: &[u32], order: Order, fresh: &[u8], caller: u32) -> Opened
 }
 
 // The command, once length and checksum are fine.
-pub(crate) fn serve_invoke(image: &[u32], bytes: &[u8], caller: u32, fresh: &[u8]) -> Opened
+pub(crate) fn serve_invoke(
+    image: &[u32],
+    bytes: &[u8],
+    caller: u32,
+    fresh: &[u8],
+) -> Result<Work, Refusal>
     requires { length image.now ≡ image_words }
     ensures { result ≡ screened_opened invoke_dpe image.now (request_of invoke_code bytes.now caller [] false fresh.now) }
 {
     if image[ATTESTATION_AT] != 1 {
-        return declined(DPE_OFF);
+        return Ok(declined(u32::from(Decline::Off)));
     }
     if !well_formed(image) {
-        return refused(NOT_WELL_FORMED);
+        return Err(Refusal::NotWellFormed);
     }
     let order = read_order(bytes, DATA_FROM);
-    let result = ground(image, order, fresh, caller);
-    if result != 0 {
-        return declined(result);
+    if let Err(decline) = ground(image, order, fresh, caller) {
+        return Ok(declined(u32::from(decline)));
     }
-    accepted(image, order, fresh, caller)
+    Ok(accepted(image, order, fresh, caller))
 }

@@ -2,12 +2,12 @@
 #![tactic(auto)]
 
 mod answer;
+mod command;
 mod disable;
 mod extend;
 mod identity;
 mod invoke;
 pub mod open;
 mod register;
-mod screen;
 mod stash;
 mod verify;

@@ -11,12 +11,10 @@ ghost use Rattle.request.specs.Screen.{screened_opened};
 
 use crate::answer::{declined, ready_with};
 use crate::register::extended_register;
-use layout::refusals::{DPE_ACCEPTED, DPE_FULL, DPE_NO_HOLDER, DPE_OFF, NOT_WELL_FORMED};
+use layout::refusals::{DPE_ACCEPTED, Decline, Refusal};
 use layout::{ATTESTATION_AT, HANDLE_BYTES, NODES, REGISTER_WORDS, STASH_REGISTER};
 use making::Values;
 use nodes::node_row;
-use opening::works::refused;
-use opening::{Opened, Status};
 use packing::four;
 use sha384::digest::extend;
 use slices::little_endian::read32;
@@ -24,6 +22,7 @@ use slices::strings::{bytes_of, joined};
 use table::{Kind, StashAt};
 use tree::formed::well_formed;
 use tree::index::{free_index, holder_index};
+use work::Work;
 
 // Where the request's fields are.
 const TYPE_FROM: usize = 4;
@@ -53,7 +52,7 @@ fn stash_values(image: &[u32], bytes: &[u8], caller: u32, holder: usize) -> Valu
         caller,
         svn,
     );
-    let inputs = joined(digest, [0u8; 48]);
+    let inputs = joined(&digest, &[0u8; 48]);
     Values {
         register,
         journey: [0u32; REGISTER_WORDS],
@@ -64,10 +63,10 @@ fn stash_values(image: &[u32], bytes: &[u8], caller: u32, holder: usize) -> Valu
 }
 
 // An accepted stash, at the free node `node` below `holder`.
-fn accepted(image: &[u32], bytes: &[u8], caller: u32, node: usize, holder: usize) -> Opened
+fn accepted(image: &[u32], bytes: &[u8], caller: u32, node: usize, holder: usize) -> Work
     requires bytes_len { (length bytes.now ≡ stash_length) × (node ≡ lowest_free node_count (tree_in image.now)) }
     requires holder_le_node_count { (holder ≤ node_count) × (holder ≡ node_with node_count (tree_in image.now) default_words) }
-    ensures { result ≡ record { work = work_at image.now (stash (measurement_in (request_of stash_code bytes.now caller [] false []))) (answer_of (bytes4 0)); status = Status.Ready } }
+    ensures { result ≡ work_at image.now (stash (measurement_in (request_of stash_code bytes.now caller [] false []))) (answer_of (bytes4 0)) }
 {
     let values = stash_values(image, bytes, caller, holder);
     let dpe = four(DPE_ACCEPTED);
@@ -75,23 +74,23 @@ fn accepted(image: &[u32], bytes: &[u8], caller: u32, node: usize, holder: usize
 }
 
 // The command, once length and checksum are fine.
-pub(crate) fn serve_stash(image: &[u32], bytes: &[u8], caller: u32) -> Opened
+pub(crate) fn serve_stash(image: &[u32], bytes: &[u8], caller: u32) -> Result<Work, Refusal>
     requires { (length image.now ≡ image_words) × (length bytes.now ≡ stash_length) }
     ensures { result ≡ screened_opened stash_measurement image.now (request_of stash_code bytes.now caller [] false []) }
 {
     if image[ATTESTATION_AT] != 1 {
-        return declined(DPE_OFF);
+        return Ok(declined(u32::from(Decline::Off)));
     }
     if !well_formed(image) {
-        return refused(NOT_WELL_FORMED);
+        return Err(Refusal::NotWellFormed);
     }
     let holder = holder_index(image);
     if NODES <= holder {
-        return declined(DPE_NO_HOLDER);
+        return Ok(declined(u32::from(Decline::NoHolder)));
     }
     let node = free_index(image);
     if NODES <= node {
-        return declined(DPE_FULL);
+        return Ok(declined(u32::from(Decline::Full)));
     }
-    accepted(image, bytes, caller, node, holder)
+    Ok(accepted(image, bytes, caller, node, holder))
 }

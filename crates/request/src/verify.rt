@@ -5,16 +5,15 @@ ghost use Rattle.opening.specs.Rules.{verify_signature, verify_code};
 ghost use Rattle.request.specs.Screen.{screened_opened};
 
 use crate::answer::ready_plain;
-use layout::refusals::BAD_SIGNATURE;
-use opening::Opened;
-use opening::works::refused;
+use layout::refusals::Refusal;
 use table::Kind;
+use work::Work;
 
-pub(crate) fn serve_verify(image: &[u32], verdict: bool) -> Opened
+pub(crate) fn serve_verify(image: &[u32], verdict: bool) -> Result<Work, Refusal>
     ensures { result ≡ screened_opened verify_signature image.now (request_of verify_code [] 0 [] verdict []) }
 {
     if verdict {
-        return ready_plain(Kind::Nothing, &[]);
+        return Ok(ready_plain(Kind::Nothing, &[]));
     }
-    refused(BAD_SIGNATURE)
+    Err(Refusal::BadSignature)
 }

@@ -4,9 +4,9 @@ use Prim.Native.Nat.{ℕ, ◌≤◌, zero-le}
 use mathlib.Core.Path.{◌≡◌, refl, sym, ap, ◌∙◌}
 use mathlib.Core.Bool.{true}
 use mathlib.Core.List.{List, ◌∷◌}
-use native.Mathlib.Omega.{arith}
 use lib.ListN.{length}
 use borrow.Author.Tests.{le-leb}
+use Rattle.std.specs.Prelude.{⊤, Ok}
 use Rattle.layout.specs.Sizes.{image_words, answer_max}
 use Rattle.layout.specs.Words.{bytes4}
 use Rattle.tree.specs.Nodes.{tree_in}
@@ -22,7 +22,6 @@ use Rattle.opening.proofs.Decided.{NoneApply, ruled_decided}
 use Rattle.command_laws.proofs.ByCommand.{declined_short}
 use Rattle.command_laws.proofs.ByCode.{command_law}
 use Rattle.opening.specs.Openings.{opened_of, size_rule, view_in, open_request}
-use Rattle.opening.specs.declared.Status.TheVariants as status
 use Rattle.opening.specs.declared.Opened.{Opened}
 
 -- a ruling's work at an image, where it is not refused
@@ -49,12 +48,12 @@ module _ (image : List ℕ) (r : Request) where
   unfolding index_ok
   decline_shaped n = opened_shape image no_stores (answer_of (bytes4 n)) refl (declined_short n)
 
-  opened_shaped : (R : Ruling) → Shaped image R → (opened_of image R).status ≡ status.Ready → well_shaped (opened_of image R).work ≡ true
-  opened_shaped (refused n) h e = let z : ◌≡◌ {A = ℕ} 0 1 = cc in absurd (omega arith)
+  opened_shaped : (R : Ruling) → Shaped image R → (opened_of image R).status ≡ Ok tt → well_shaped (opened_of image R).work ≡ true
+  opened_shaped (refused n) h e = absurd cc
   opened_shaped (accepted t a) h e = h
 
   -- five rules come before the command's own
-  ready_shaped : (open_request image r).status ≡ status.Ready → well_shaped (open_request image r).work ≡ true
+  ready_shaped : (open_request image r).status ≡ Ok tt → well_shaped (open_request image r).work ≡ true
   unfolding open_request
   ready_shaped e =
       let rules = size_rule image ∷ request_rules (view_in image) r in
@@ -64,8 +63,8 @@ module _ (image : List ℕ) (r : Request) where
       opened_shaped (ruled rules c r) shaped e
 
   -- so after all stores it is finished
-  pub ready_finished : (o : Opened) → o ≡ open_request image r → o.status ≡ status.Ready → length image ≡ image_words
+  pub ready_finished : (o : Opened ⊤) → o ≡ open_request image r → o.status ≡ Ok tt → length image ≡ image_words
       → finished (all_stores o.work image).work ≡ true
   ready_finished o e ready long =
-      let shaped : well_shaped o.work ≡ true = ap (λ (x : Opened). well_shaped x.work) e ∙ ready_shaped (sym (ap (λ (x : Opened). x.status) e) ∙ ready) in
+      let shaped : well_shaped o.work ≡ true = ap (λ (x : Opened ⊤). well_shaped x.work) e ∙ ready_shaped (sym (ap (λ (x : Opened ⊤). x.status) e) ∙ ready) in
       all_finished image long o.work shaped

@@ -1,13 +1,12 @@
 -- The small program of document 01, from the bytes on standard input to those it writes: one request, its code in front, on a unit that was just cold
 -- booted (REFERENCE.md, section 13). Assumes nothing.
-use Rattle.std.specs.Prelude.{ℕ, ◌+◌, ◌-◌, false, cond, List, [], ◌++◌, ltb, length, take, drop, replicate}
+use Rattle.std.specs.Prelude.{ℕ, ◌+◌, ◌-◌, ⊤, Result, Ok, Err, false, cond, List, [], ◌++◌, ltb, length, take, drop, replicate}
 use Rattle.layout.specs.Sizes.{image_words, answer_max}
 use Rattle.layout.specs.Words.{zeros, le32, bytes4}
+use Rattle.layout.specs.declared.refusals.Refusal.{Refusal}
 use Rattle.work.specs.declared.Work.{Work}
 use Rattle.opening.specs.Tasks.{Request, request_of, BootInputs, boot_of}
 use Rattle.opening.specs.Openings.{open_request, status_number, cold_booted}
-use Rattle.opening.specs.declared.Status.{Status}
-use Rattle.opening.specs.declared.Status.TheVariants as status
 use Rattle.opening.specs.declared.Opened.{Opened}
 use Rattle.respond.specs.declared.Response.{Response}
 
@@ -25,12 +24,12 @@ unfoldable pub request_in : List ℕ → Request
 request_in input = request_of (cond (ltb (length input) 4) 0 (le32 input 0)) (drop 4 input) 0 [] false []
 
 -- what follows the result: the answer, or nothing where the request is refused
-abbrev pub answer_bytes : Work → Status → List ℕ
-answer_bytes w status.Ready = take w.answer_len w.answer
-answer_bytes w (status.Refused n) = []
+abbrev pub answer_bytes : Work → Result ⊤ Refusal → List ℕ
+answer_bytes w (Ok u) = take w.answer_len w.answer
+answer_bytes w (Err r) = []
 
 -- all that is written
-unfoldable pub written : Opened → List ℕ
+unfoldable pub written : Opened ⊤ → List ℕ
 written o = bytes4 (status_number o.status) ++ answer_bytes o.work o.status
 
 -- the output for an input of which all bytes are used. The stores of the request's own work change the image and not the answer, which is the work's from

@@ -3,7 +3,7 @@
 
 mod run;
 
-ghost use Rattle.std.specs.Prelude.{◌≡◌, true, ◌++◌, ◌+◌, ◌≤◌, drop};
+ghost use Rattle.std.specs.Prelude.{◌≡◌, true, Ok, ◌++◌, ◌+◌, ◌≤◌, drop};
 ghost use Rattle.layout.specs.Sizes.{answer_max};
 ghost use Rattle.layout.specs.Words.{bytes4};
 ghost use Rattle.work.specs.Entries.{finished};
@@ -13,8 +13,6 @@ ghost use Rattle.respond.specs.Program.{answer_bytes, output_of, program_output,
 use crate::run::{cold_image, open};
 use layout::{ANSWER_MAX, IMAGE_WORDS};
 use making::run::run_all;
-use opening::Status;
-use opening::works::number_of;
 use packing::four;
 use work::Work;
 
@@ -27,7 +25,7 @@ const RESULT_LEN: usize = 4;
 // The result and the longest answer.
 pub const RESPONSE_MAX: usize = RESULT_LEN + ANSWER_MAX;
 
-// What the program writes: the first `len` bytes; the others are zero.
+// What the program writes: the first `len` bytes; the others are zero. A fixed buffer with its length: no heap.
 #[derive(Clone, Copy)]
 pub struct Response {
     pub len: usize,
@@ -41,7 +39,7 @@ fn with_result(number: u32, n: usize, space: [u8; RESPONSE_MAX]) -> Response
 {
     let result = four(number);
     let mut out = space;
-    copying::copy(&result, &mut out);
+    out[..RESULT_LEN].copy_from_slice(&result);
     Response {
         len: RESULT_LEN + n,
         bytes: out,
@@ -51,13 +49,13 @@ fn with_result(number: u32, n: usize, space: [u8; RESPONSE_MAX]) -> Response
 // Makes all stores of a work at an image, and takes the answer.
 fn answered(work: Work, image: [u32; IMAGE_WORDS]) -> Response
     requires { finished (all_stores work image).work ≡ true }
-    ensures { result ≡ response_of (bytes4 0 ++ answer_bytes work Status.Ready) }
+    ensures { result ≡ response_of (bytes4 0 ++ answer_bytes work (Ok tt)) }
 {
     let mut words = image;
     let done = run_all(work, &mut words);
     let mut space = [0u8; RESPONSE_MAX];
-    let answer = done.answer(&mut space[RESULT_LEN..]);
-    with_result(answer.number, answer.written, space)
+    let n = done.answer(&mut space[RESULT_LEN..]).unwrap();
+    with_result(0, n, space)
 }
 
 // Opens the request of an input of which all bytes are used, and answers it.
@@ -66,12 +64,10 @@ fn respond_to(input: &[u8]) -> Response
 {
     let image = cold_image();
     let opened = open(&image, input);
-    let status = opened.status;
-    let Status::Ready = status else {
-        return with_result(number_of(status), 0, [0u8; RESPONSE_MAX]);
+    let Ok(()) = opened.status else {
+        return with_result(opened.number(), 0, [0u8; RESPONSE_MAX]);
     };
-    let work = opened.work;
-    answered(work, image)
+    answered(opened.work, image)
 }
 
 // What the program writes for the bytes on its standard input, however many.

@@ -17,12 +17,12 @@ pub(crate) fn cold_image() -> [u32; IMAGE_WORDS]
     let runtime = [0x11u8; 48];
     let manifest = [0x33u8; 48];
     let secret = [0x22u8; 48];
-    boot_cold(&mut image, &runtime, &manifest, &secret);
+    let _ = boot_cold(&mut image, &runtime, &manifest, &secret);
     image
 }
 
 // Opens the request of an input: caller 0, no handoff table, verdict no.
-pub(crate) fn open(image: &[u32], input: &[u8]) -> Opened
+pub(crate) fn open(image: &[u32], input: &[u8]) -> Opened<()>
     ensures { result ≡ open_request image.now (request_in input.now) }
 {
     let none = &input[..0];

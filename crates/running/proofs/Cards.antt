@@ -6,12 +6,13 @@ use Prim.Native.Nat.{ℕ, ◌+◌, ◌^◌, ◌≤◌, ◌<◌}
 use borrow.Author.Tests.{lt-ltb, le-ltb}
 use lib.ListN.{length}
 use Rattle.sha384.specs.Entries.{longest}
-use Rattle.running.specs.Running.{longest_total, agree, agrees, feed_number, feed_result, finish_result}
+use Rattle.sha384.specs.Errors.{number_of}
+use Rattle.running.specs.Running.{longest_total, agree, agrees, admitted, feed_result, finish_result}
 use Rattle.running.specs.declared.Running.{Running}
 use Rattle.running.specs.Cards.{counting, Refused, RunningCards}
 
 refused : (st : Running) → agrees st ≡ false → Refused st
-unfolding feed_number feed_result finish_result
+unfolding admitted feed_result finish_result
 refused st h = record { feed = λ m. rw h; finish = rw h }
 
 full_block : (b h : List ℕ) → agrees (counting 128 128 b h) ≡ false
@@ -22,16 +23,16 @@ too_large : (b h : List ℕ) → agrees (counting (2 ^ 32) 0 b h) ≡ false
 unfolding agree
 too_large b h = refl
 
-at_the_full_total : (b h : List ℕ) → (feed_result (counting longest_total 127 b h) []).number ≡ 0
-unfolding agree feed_number feed_result
+at_the_full_total : (b h : List ℕ) → number_of (feed_result (counting longest_total 127 b h) []) ≡ 0
+unfolding agree admitted feed_result
 at_the_full_total b h = refl
 
-too_long : (st : Running) (m : List ℕ) → agrees st ≡ true → longest < length m → (feed_result st m).number ≡ 10
-unfolding feed_number feed_result
+too_long : (st : Running) (m : List ℕ) → agrees st ≡ true → longest < length m → number_of (feed_result st m) ≡ 10
+unfolding admitted feed_result
 too_long st m h l = rw (h, lt-ltb longest (length m) l)
 
-beyond : (st : Running) (m : List ℕ) → agrees st ≡ true → length m ≤ longest → longest_total < st.total + length m → (feed_result st m).number ≡ 16
-unfolding feed_number feed_result
+beyond : (st : Running) (m : List ℕ) → agrees st ≡ true → length m ≤ longest → longest_total < st.total + length m → number_of (feed_result st m) ≡ 16
+unfolding admitted feed_result
 beyond st m h s l = rw (h, le-ltb longest (length m) s, lt-ltb longest_total (st.total + length m) l)
 
 pub running_cards : RunningCards

@@ -5,8 +5,8 @@ use Prim.Native.Nat.{ℕ, suc, ◌+◌, ◌-◌, ◌*◌, ◌/◌, ◌%◌, ◌�
 use native.Mathlib.Omega.{arith}
 use lib.ListN.{length, take, drop, replicate, length-append, length-drop, length-replicate}
 use lib.ListN.{drop_of_length-le, take-append-drop}
-use lib.Seq.{take_all, take_at, drop-drop, drop-append-add, length-take-le}
-use borrow.Rule.Slice.PartMut.{mid_of, post_of, put_mid}
+use lib.Seq.{take_at, drop_at, drop-drop, drop-append-add, length-take-le}
+use borrow.Rule.Slice.PartMut.{put_mid}
 use Rattle.layout.proofs.Tab.{drop_zeros}
 use Rattle.sha_block.specs.Blocks.{hashed, hash_words, hash_value, absorbed}
 use Rattle.sha_block.proofs.Hashed.{hashed_append, absorbed_words, absorbed_hashed}
@@ -15,46 +15,25 @@ use Rattle.running.specs.Running.{filled, waiting_then, fed_of}
 use Rattle.running.specs.declared.Running.{Running}
 
 -- bytes copied to the front of zeros
-pub filled_front : (l o : List ℕ) → length l ≤ 128 → o ≡ take (length l) l ++ drop (length l) (replicate 128 0) → o ≡ filled l
+pub filled_front : (l o : List ℕ) (k : ℕ) → length l ≡ k → k ≤ 128 → o ≡ l → put_mid 0 k (replicate 128 0) o ≡ filled l
 unfolding filled
-filled_front l o h e = e ∙ ap₂ (λ (a b : List ℕ). a ++ b) (take_all (length l) l (omega arith)) (drop_zeros (length l) 128 h)
-
--- bytes copied behind those that wait
-pub put_behind : (m b o : List ℕ) (w n : ℕ) → length b ≡ 128 → w + n ≡ 128 → length m ≤ n
-    → o ≡ take (length m) m ++ drop (length m) (mid_of w n b) → put_mid w n b o ≡ take w b ++ (m ++ drop (w + length m) b)
-put_behind m b o w n hb hn hm e =
-    let tail : mid_of w n b ≡ drop w b = take_all n (drop w b) (omega (arith, length-drop w b)) in
-    let after : post_of w n b ≡ [] = drop_of_length-le (drop w b) {i = n} (omega (arith, length-drop w b)) in
-    let second : o ≡ m ++ drop (w + length m) b =
-    e ∙ ap₂ (λ (x y : List ℕ). x ++ y) (take_all (length m) m (omega arith)) (ap (drop (length m)) tail ∙ drop-drop (length m) w b) in
-    ap (λ (l : List ℕ). take w b ++ l) (ap₂ (λ (x y : List ℕ). x ++ y) second after ∙ append-nil (m ++ drop (w + length m) b))
-
--- zeros behind l, of which the first n give way to m
-filled_behind : (l m : List ℕ) → length l + length m ≤ 128 → l ++ (m ++ drop (length l + length m) (filled l)) ≡ filled (l ++ m)
-unfolding filled
-filled_behind l m h =
-    let w = length l in
-    let n = length m in
-    let k = 128 - length (l ++ m) in
-    let count : 128 - w - n ≡ k = omega (arith, length-append l m) in
-    let zeros : drop (w + n) (l ++ replicate (128 - w) 0) ≡ replicate k 0 =
-    drop-append-add l (replicate (128 - w) 0) n ∙ drop_zeros n (128 - w) (omega arith) ∙ ap (λ (x : ℕ). replicate x 0) count in
-    ap (λ (z : List ℕ). l ++ (m ++ z)) zeros ∙ sym (append_assoc l m (replicate k 0))
+filled_front l o k n h e =
+    ap₂ (λ (a b : List ℕ). a ++ b) e (drop_zeros k 128 h) ∙ ap (λ (x : ℕ). l ++ replicate (128 - x) 0) (sym n)
 
 -- a slice that leaves less than a block waiting
-pub kept_buffer : (old m b o : List ℕ) (w : ℕ) → length old ≡ 128 → w + length m < 128
-    → b ≡ take (length (take w old)) (take w old) ++ drop (length (take w old)) (replicate 128 0)
-    → o ≡ take (length m) m ++ drop (length m) (mid_of w (128 - w) b) → put_mid w (128 - w) b o ≡ filled (take w old ++ m)
+pub kept_buffer : (old m o p : List ℕ) (w k : ℕ) → length old ≡ 128 → w + length m < 128 → k ≡ length m → o ≡ take w old → p ≡ m
+    → put_mid w k (put_mid 0 w (replicate 128 0) o) p ≡ filled (take w old ++ m)
 unfolding filled
-kept_buffer old m b o w hl hw eb eo =
+kept_buffer old m o p w k hl hw hk eo ep =
     let l = take w old in
+    let z : List ℕ = replicate (128 - w) 0 in
     let n : length l ≡ w = length-take-le w old (omega arith) in
-    let front : b ≡ filled l = filled_front l b (omega arith) eb in
-    let full : length b ≡ 128 = ap length front ∙ length-append l (replicate (128 - length l) 0) ∙ omega (arith, length-replicate {A = ℕ} (128 - length l) 0) in
-    put_behind m b o w (128 - w) full (omega arith) (omega arith) eo
-    ∙ ap₂ (λ (x : List ℕ) (y : List ℕ). x ++ (m ++ y)) (ap (take w) front ∙ take_at l (replicate (128 - length l) 0) w n)
-    (ap₂ (λ (x : ℕ) (y : List ℕ). drop (x + length m) y) (sym n) front)
-    ∙ filled_behind l m (omega arith)
+    let front : put_mid 0 w (replicate 128 0) o ≡ l ++ z = ap₂ (λ (a b : List ℕ). a ++ b) eo (drop_zeros w 128 (omega arith)) in
+    let rest : drop k (drop w (l ++ z)) ≡ replicate (128 - length (l ++ m)) 0 =
+    ap₂ drop hk (drop_at l z w n) ∙ drop_zeros (length m) (128 - w) (omega arith)
+    ∙ ap (λ (x : ℕ). replicate x 0) (omega (arith, length-append l m)) in
+    ap₂ (put_mid w k) front ep ∙ ap₂ (λ (a b : List ℕ). a ++ (m ++ b)) (take_at l z w n) rest
+    ∙ sym (append_assoc l m (replicate (128 - length (l ++ m)) 0))
 
 pub kept_state : (st : Running) (m buffer : List ℕ) → length st.buffer ≡ 128 → st.waiting + length m < 128 → buffer ≡ filled (waiting_then st m)
     → record { total = st.total + length m; waiting = st.waiting + length m; buffer = buffer; hash = st.hash } ≡ fed_of st m
@@ -73,14 +52,10 @@ kept_state st m buffer hl hw e =
     }
 
 -- the block that waits, filled up
-pub full_block : (old m b o : List ℕ) (w : ℕ) → length old ≡ 128 → w < 128 → 128 ≤ w + length m
-    → o ≡ take (length (take (128 - w) m)) (take (128 - w) m) ++ drop (length (take (128 - w) m)) (mid_of w (128 - w) old)
-    → b ≡ put_mid w (128 - w) old o → b ≡ take w old ++ take (128 - w) m
-full_block old m b o w hl hw hm eo eb =
-    let t = take (128 - w) m in
-    let n : length t ≡ 128 - w = length-take-le (128 - w) m (omega arith) in
-    eb ∙ put_behind t old o w (128 - w) hl (omega arith) (omega arith) eo
-    ∙ ap (λ (l : List ℕ). take w old ++ l) (ap (λ (l : List ℕ). t ++ l) (drop_of_length-le old {i = w + length t} (omega arith)) ∙ append-nil t)
+pub full_block : (old t o : List ℕ) (w k : ℕ) → length old ≡ 128 → w + k ≡ 128 → o ≡ t → put_mid w k old o ≡ take w old ++ t
+full_block old t o w k hl hw e =
+    let none : drop k (drop w old) ≡ [] = drop_of_length-le (drop w old) {i = k} (omega (arith, length-drop w old)) in
+    ap (λ (l : List ℕ). take w old ++ l) (ap₂ (λ (a b : List ℕ). a ++ b) e none ∙ append-nil t)
 
 pub full_length : (old m b : List ℕ) (w : ℕ) → length old ≡ 128 → w < 128 → 128 ≤ w + length m → b ≡ take w old ++ take (128 - w) m → length b ≡ 128
 full_length old m b w hl hw hm e =

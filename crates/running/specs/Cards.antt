@@ -1,6 +1,7 @@
 -- The cases that document 02's request 12 is held to, for every buffer, hash value and slice. Assumes nothing.
 use Rattle.std.specs.Prelude.{ℕ, ◌+◌, ◌-◌, ◌^◌, ◌≤◌, ◌<◌, ◌≡◌, true, false, List, [], length}
 use Rattle.sha384.specs.Entries.{longest}
+use Rattle.sha384.specs.Errors.{number_of}
 use Rattle.running.specs.declared.Running.{Running}
 use Rattle.running.specs.Running.{longest_total, agrees, feed_result, finish_result}
 
@@ -10,8 +11,8 @@ counting total waiting buffer hash = record { total = total; waiting = waiting; 
 
 -- a state that every feed and every finish refuses with 27
 pub record Refused (st : Running) : Type 0 where
-  pub feed : (m : List ℕ) → (feed_result st m).number ≡ 27
-  pub finish : (finish_result st).number ≡ 27
+  pub feed : (m : List ℕ) → number_of (feed_result st m) ≡ 27
+  pub finish : number_of (finish_result st) ≡ 27
 
 pub record RunningCards : Type 0 where
   -- the largest total
@@ -21,8 +22,8 @@ pub record RunningCards : Type 0 where
   -- a total of 2^32 with none waiting
   pub total_too_large : (buffer hash : List ℕ) → Refused (counting (2 ^ 32) 0 buffer hash)
   -- the full total takes an empty slice
-  pub empty_at_the_full_total : (buffer hash : List ℕ) → (feed_result (counting longest_total 127 buffer hash) []).number ≡ 0
+  pub empty_at_the_full_total : (buffer hash : List ℕ) → number_of (feed_result (counting longest_total 127 buffer hash) []) ≡ 0
   -- 27 before 10 before 16
   pub counts_first : (st : Running) → agrees st ≡ false → Refused st
-  pub length_next : (st : Running) (m : List ℕ) → agrees st ≡ true → longest < length m → (feed_result st m).number ≡ 10
-  pub total_last : (st : Running) (m : List ℕ) → agrees st ≡ true → length m ≤ longest → longest_total < st.total + length m → (feed_result st m).number ≡ 16
+  pub length_next : (st : Running) (m : List ℕ) → agrees st ≡ true → longest < length m → number_of (feed_result st m) ≡ 10
+  pub total_last : (st : Running) (m : List ℕ) → agrees st ≡ true → length m ≤ longest → longest_total < st.total + length m → number_of (feed_result st m) ≡ 16

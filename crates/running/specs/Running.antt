@@ -1,11 +1,11 @@
 -- The running digest of document 02, request 12: what begin, feed and finish answer, for every state value. Assumes nothing.
-use Rattle.std.specs.Prelude.{ℕ, ◌+◌, ◌-◌, ◌*◌, ◌/◌, ◌%◌, Bool, cond, not, ◌&&◌, List, ◌++◌, eqb, leb, ltb, length, take, drop, replicate}
+use Rattle.std.specs.Prelude.{ℕ, ◌+◌, ◌-◌, ◌*◌, ◌/◌, ◌%◌, Bool, cond, not, ◌&&◌, List, ◌++◌, eqb, leb, ltb, length, take, drop, replicate, Result, Ok, Err}
 use Rattle.sha_block.specs.Blocks.{hash_words, absorbed}
 use Rattle.sha384.specs.Constants.{constants, initial_of}
 use Rattle.sha384.specs.Entries.{longest, concluded}
-use Rattle.sha384.specs.declared.digest.DigestResult.{DigestResult}
+use Rattle.sha384.specs.declared.errors.DigestError.{DigestError}
+use Rattle.sha384.specs.declared.errors.DigestError.TheVariants.{TooLong, TotalTooLong, Damaged}
 use Rattle.running.specs.declared.Running.{Running}
-use Rattle.running.specs.declared.Fed.{Fed}
 
 -- "a total of at most 2^32 minus 1 bytes"
 abbrev pub longest_total : ℕ
@@ -26,10 +26,11 @@ agree waiting total = eqb waiting (total % 128) && leb total longest_total
 abbrev pub agrees : Running → Bool
 agrees st = agree st.waiting st.total
 
--- a feed's number for a slice of n bytes, "In this order": 27 counts that disagree or a larger total, 10 a longer slice, 16 a total that would be
--- larger; else 0
-unfoldable pub feed_number : Running → ℕ → ℕ
-feed_number st n = cond (not (agrees st)) 27 (cond (ltb longest n) 10 (cond (ltb longest_total (st.total + n)) 16 0))
+-- x where a slice of n bytes is accepted; else why it is refused, "In this order": counts that disagree or a larger total (27), a longer slice (10),
+-- a total that would be larger (16)
+unfoldable pub admitted : {A : Type 0} → Running → ℕ → A → Result A DigestError
+admitted st n x =
+    cond (not (agrees st)) (Err Damaged) (cond (ltb longest n) (Err TooLong) (cond (ltb longest_total (st.total + n)) (Err TotalTooLong) (Ok x)))
 
 -- the bytes that wait, and the slice behind them
 abbrev pub waiting_then : Running → List ℕ → List ℕ
@@ -45,16 +46,10 @@ fed_of st m =
       hash = absorbed constants st.hash (waiting_then st m) (length (waiting_then st m) / 128);
     }
 
--- feed: the state "stays as it stood" where it is refused
-unfoldable pub feed_result : Running → List ℕ → Fed
-feed_result st m =
-    cond (eqb (feed_number st (length m)) 0)
-    (record { number = 0; state = fed_of st m })
-    (record { number = feed_number st (length m); state = st })
+-- feed: the state after the slice, or why it is refused
+unfoldable pub feed_result : Running → List ℕ → Result Running DigestError
+feed_result st m = admitted st (length m) (fed_of st m)
 
--- finish: the digest, or 27 "with 48 zero bytes"
-unfoldable pub finish_result : Running → DigestResult
-finish_result st =
-    cond (agrees st)
-    (record { number = 0; bytes = concluded st.hash st.buffer st.total })
-    (record { number = 27; bytes = replicate 48 0 })
+-- finish: the digest, or 27
+unfoldable pub finish_result : Running → Result (List ℕ) DigestError
+finish_result st = cond (agrees st) (Ok (concluded st.hash st.buffer st.total)) (Err Damaged)

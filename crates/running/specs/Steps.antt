@@ -1,8 +1,9 @@
 -- The running digest's theorem: a list of steps on one state, and what document 02 says of them. Assumes nothing.
-use Rattle.std.specs.Prelude.{ℕ, ◌+◌, ◌≡◌, cond, List, [], ◌∷◌, ◌++◌, eqb, ltb, length}
+use Rattle.std.specs.Prelude.{ℕ, ◌+◌, ◌≡◌, cond, List, [], ◌∷◌, ◌++◌, eqb, ltb, length, replicate}
+use Rattle.std.specs.Result.{result_unwrap_or}
 use Rattle.sha384.specs.Sha384.{sha384}
 use Rattle.sha384.specs.Entries.{longest}
-use Rattle.sha384.specs.declared.digest.DigestResult.{DigestResult}
+use Rattle.sha384.specs.Errors.{number_of}
 use Rattle.running.specs.declared.Running.{Running}
 use Rattle.running.specs.Running.{longest_total, begun, feed_result, finish_result}
 
@@ -11,16 +12,16 @@ pub data Step : Type 0 where
   feed : List ℕ → Step
   finish : Step
 
--- a feed's number, or what a finish gives
+-- a feed's number, or a finish's number and bytes
 pub data Result : Type 0 where
   fed : ℕ → Result
-  finished : DigestResult → Result
+  finished : ℕ → List ℕ → Result
 
--- the entries one after another, each given the state that the last left
+-- the entries one after another, each given the state that the last left, which a refused feed leaves as it stood; a refused finish gives "48 zero bytes"
 abbrev pub results : Running → List Step → List Result
 results st [] = []
-results st (feed m ∷ steps) = fed (feed_result st m).number ∷ results (feed_result st m).state steps
-results st (finish ∷ steps) = finished (finish_result st) ∷ results st steps
+results st (feed m ∷ steps) = fed (number_of (feed_result st m)) ∷ results (result_unwrap_or (feed_result st m) st) steps
+results st (finish ∷ steps) = finished (number_of (finish_result st)) (result_unwrap_or (finish_result st) (replicate 48 0)) ∷ results st steps
 
 -- a feed's number, told from the bytes accepted before it alone
 unfoldable pub number_after : List ℕ → List ℕ → ℕ
@@ -34,7 +35,7 @@ done_after done m = cond (eqb (number_after done m) 0) (done ++ m) done
 abbrev pub told : List ℕ → List Step → List Result
 told done [] = []
 told done (feed m ∷ steps) = fed (number_after done m) ∷ told (done_after done m) steps
-told done (finish ∷ steps) = finished (record { number = 0; bytes = sha384 done }) ∷ told done steps
+told done (finish ∷ steps) = finished 0 (sha384 done) ∷ told done steps
 
 -- "wherever cut, empty ones too": in every list of steps after begin, each number and each digest is told by the bytes accepted before it
 unfoldable pub RunningDigest : Type 0

@@ -1,27 +1,22 @@
 -- Stores of a state's parts, one behind the other. Assumes nothing.
 use mathlib.Core.Path.{◌≡◌, refl, sym, ap, ap₂, ◌∙◌}
 use mathlib.Core.List.{List, [], ◌∷◌, ◌++◌, append_assoc, append-nil}
-use Prim.Native.Nat.{ℕ, ◌+◌, ◌-◌, ◌*◌, ◌≤◌, ◌<◌}
+use Prim.Native.Nat.{ℕ, ◌+◌, ◌-◌, ◌*◌, ◌%◌, ◌≤◌, ◌<◌}
 use native.Mathlib.Numerals.{add-one}
 use native.Mathlib.Omega.{arith}
-use borrow.Rule.Slice.PartMut.{mid_of, post_of, put_mid}
 use lib.ListN.{length, take, drop, get_or, length-append, length-drop, drop_of_length-le}
 use lib.Seq.{sets, sets-eq, take_all, take-suc, drop-drop, length-take-le}
-use Rattle.layout.specs.Words.{bytes8}
+use native.Mathlib.Nat.{div-one}
+use Rattle.std.specs.Int.{w64, to_le_bytes}
+use Rattle.layout.specs.Words.{byte_of, bytes8}
 use Rattle.layout.proofs.Blocks.{sets_join, sets_whole}
 use Rattle.running.specs.declared.Running.{Running}
 use Rattle.running_bytes.specs.Coding.{total_in, waiting_in, buffer_in, hash_in, state_size, long_bytes, state_bytes}
 
--- a copy that fills the n bytes from i on
-pub copied : (n i : ℕ) (l v o : List ℕ) → length v ≡ n → i + n ≤ length l → o ≡ take (length v) v ++ drop (length v) (mid_of i n l)
-    → put_mid i n l o ≡ sets l i v
-copied n i l v o hv hl e =
-    let mid : length (mid_of i n l) ≡ n = length-take-le n (drop i l) (omega (arith, length-drop i l)) in
-    let full : o ≡ v =
-    e ∙ ap₂ (λ (x y : List ℕ). x ++ y) (take_all (length v) v (omega arith)) (drop_of_length-le (mid_of i n l) {i = length v} (omega arith)) ∙ append-nil v in
-    let rest : post_of i n l ≡ drop (i + length v) l = drop-drop n i l ∙ ap (λ (k : ℕ). drop (i + k) l) (sym hv) in
-    ap₂ (λ (x y : List ℕ). take i l ++ (x ++ y)) full rest ∙ sym (append_assoc (take i l) v (drop (i + length v) l))
-    ∙ sym (sets-eq v l i (omega arith))
+-- `to_le_bytes`, at eight bytes
+pub le_bytes : (x : ℕ) → to_le_bytes w64 x ≡ bytes8 x
+le_bytes x =
+    ap (λ (low : ℕ). low % 256 ∷ byte_of x 1 ∷ byte_of x 2 ∷ byte_of x 3 ∷ byte_of x 4 ∷ byte_of x 5 ∷ byte_of x 6 ∷ byte_of x 7 ∷ []) (sym (div-one x))
 
 pub long_append : (a b : List ℕ) → long_bytes (a ++ b) ≡ long_bytes a ++ long_bytes b
 long_append [] b = refl

@@ -9,7 +9,7 @@ abbrev pub results_in : List ℕ → List ℕ → List Step → List Result
 results_in b s [] = []
 results_in b s (feed m ∷ steps) = fed (feed_number_in s m) ∷ results_in b (feed_bytes s m) steps
 results_in b s (finish ∷ steps) =
-    finished (record { number = finish_number_in s (length b); bytes = finish_buffer s b }) ∷ results_in b s steps
+    finished (finish_number_in s (length b)) (finish_buffer s b) ∷ results_in b s steps
 
 -- from begin in any bytes of a state's size, the steps give what document 02 says of them
 unfoldable pub RunningDigestInBytes : Type 0

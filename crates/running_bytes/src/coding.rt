@@ -40,7 +40,7 @@ pub(crate) fn state_of(state: &[u8]) -> Running
     ensures { result ≡ state_at state.now }
 {
     let mut buffer = [0u8; 128];
-    copying::copy(&state[BUFFER_IN..HASH_IN], &mut buffer);
+    buffer.copy_from_slice(&state[BUFFER_IN..HASH_IN]);
     let hash = hash_in(state);
     Running {
         total: read64(state, TOTAL_IN),
@@ -55,37 +55,26 @@ fn put64(out: &mut [u8], at: usize, x: u64)
     requires { at + 8 ≤ length out.old }
     ensures { out.new ≡ sets out.old at (bytes8 x) }
 {
-    out[at] = (x % 256) as u8;
-    out[at + 1] = (x / 0x100 % 256) as u8;
-    out[at + 2] = (x / 0x10000 % 256) as u8;
-    out[at + 3] = (x / 0x1000000 % 256) as u8;
-    out[at + 4] = (x / 0x100000000 % 256) as u8;
-    out[at + 5] = (x / 0x10000000000 % 256) as u8;
-    out[at + 6] = (x / 0x1000000000000 % 256) as u8;
-    out[at + 7] = (x / 0x100000000000000 % 256) as u8;
+    out[at..at + 8].copy_from_slice(&x.to_le_bytes());
 }
 
 // Writes the words of a hash value at their place.
-fn put_hash(out: &mut [u8], hash: [u64; 8])
+fn put_hash(out: &mut [u8], hash: &[u64; 8])
     requires { length out.old ≡ state_size }
-    ensures { out.new ≡ sets out.old hash_in (long_bytes hash) }
+    ensures { out.new ≡ sets out.old hash_in (long_bytes hash.now) }
 {
-    let mut k = 0;
-    while k < 8 {
-        put64(out, HASH_IN + 8 * k, hash[k]);
-        k += 1;
+    for (k, word) in hash.iter().enumerate() {
+        put64(out, HASH_IN + 8 * k, *word);
     }
 }
 
 // Writes a state.
-pub(crate) fn put_state(state: Running, out: &mut [u8])
+pub(crate) fn put_state(state: &Running, out: &mut [u8])
     requires { length out.old ≡ state_size }
-    ensures { out.new ≡ state_bytes state }
+    ensures { out.new ≡ state_bytes state.now }
 {
     put64(out, TOTAL_IN, state.total);
     put64(out, WAITING_IN, state.waiting);
-    let buffer = state.buffer;
-    copying::copy(&buffer, &mut out[BUFFER_IN..HASH_IN]);
-    let hash = state.hash;
-    put_hash(out, hash);
+    out[BUFFER_IN..HASH_IN].copy_from_slice(&state.buffer);
+    put_hash(out, &state.hash);
 }

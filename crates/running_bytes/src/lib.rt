@@ -1,5 +1,6 @@
 // The running digest over a state that the caller holds as bytes: begin, feed and finish on a lent
-// buffer. Any bytes are a state.
+// buffer. Any bytes are a state. Each hands a number to C, so a refusal is its number here, and no
+// `Result`.
 #![tactic(auto)]
 
 ghost use Rattle.std.specs.Prelude.{◌≡◌, length};
@@ -20,7 +21,7 @@ pub fn begin(state: &mut [u8]) -> u32
     if state.len() != STATE_BYTES {
         return WRONG_STATE;
     }
-    put_state(running::begin(), state);
+    put_state(&running::begin(), state);
     0
 }
 
@@ -33,14 +34,14 @@ pub fn feed(state: &mut [u8], slice: &[u8]) -> u32
     if state.len() != STATE_BYTES {
         return WRONG_STATE;
     }
-    let before = state_of(state);
-    let fed = before.feed(slice);
-    if fed.number != 0 {
-        return fed.number;
+    let mut held = state_of(state);
+    match held.feed(slice) {
+        Ok(()) => {
+            put_state(&held, state);
+            0
+        }
+        Err(error) => u32::from(error),
     }
-    let after = fed.state;
-    put_state(after, state);
-    0
 }
 
 // The digest of the state that the bytes are, into the first 48 bytes of the buffer: 0. Refused, with
@@ -52,15 +53,13 @@ pub fn finish(state: &[u8], buffer: &mut [u8]) -> u32
     if state.len() != STATE_BYTES {
         return WRONG_STATE;
     }
-    let held = state_of(state);
-    let done = held.finish();
-    if done.number != 0 {
-        return done.number;
-    }
+    let digest = match state_of(state).finish() {
+        Ok(digest) => digest,
+        Err(error) => return u32::from(error),
+    };
     if buffer.len() < 48 {
         return 8;
     }
-    let digest = done.bytes;
-    copying::copy(&digest, buffer);
+    buffer[..48].copy_from_slice(&digest);
     0
 }

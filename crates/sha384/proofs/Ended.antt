@@ -4,7 +4,8 @@ use mathlib.Core.List.{List, [], ◌∷◌, ◌++◌, append_assoc, append-nil}
 use Prim.Native.Nat.{ℕ, suc, ◌+◌, ◌-◌, ◌*◌, ◌/◌, ◌%◌, ◌^◌, ◌≤◌, ◌<◌}
 use native.Mathlib.Omega.{arith}
 use lib.ListN.{length, take, drop, set, replicate, length-append, length-replicate, replicate-append-replicate, drop_of_length-le}
-use lib.Seq.{sets, sets-eq, take_all, take_at, drop_at, set_at}
+use lib.Seq.{sets, sets-eq, take_at, drop_at, set_at}
+use borrow.Rule.Slice.PartMut.{put_mid}
 use Rattle.sha384.specs.Sha384.{bytes_of, padding}
 
 abbrev zeros : ℕ → List ℕ
@@ -46,15 +47,13 @@ pub length_marked : (last : List ℕ) → length last < 128 → length (marked l
 length_marked last h = length-append last (128 ∷ zeros (127 - length last)) ∙ omega (arith, length_zeros (127 - length last))
 
 -- it is what the copy into zeros and the store of the byte make
-pub marks : (last o : List ℕ) → length last < 128 → o ≡ take (length last) last ++ drop (length last) (replicate 128 0) → set o (length last) 128 ≡ marked last
+pub marks : (last o : List ℕ) → length last < 128 → o ≡ last → set (put_mid 0 (length last) (replicate 128 0) o) (length last) 128 ≡ marked last
 marks last o h e =
     let n = length last in
     let count : 128 - n ≡ suc (127 - n) = omega arith in
-    let copied : o ≡ last ++ (0 ∷ zeros (127 - n)) =
-    e
-    ∙ ap₂ (λ (x y : List ℕ). x ++ y) (take_all n last (omega arith))
-    (ap (drop n) (zeros_add n (128 - n) 128 (omega arith)) ∙ drop_at (zeros n) (zeros (128 - n)) n (length_zeros n) ∙ ap zeros count) in
-    ap (λ (l : List ℕ). set l n 128) copied ∙ set_at last 0 (zeros (127 - n)) 128 n refl
+    let rest : drop n (zeros 128) ≡ 0 ∷ zeros (127 - n) =
+    ap (drop n) (zeros_add n (128 - n) 128 (omega arith)) ∙ drop_at (zeros n) (zeros (128 - n)) n (length_zeros n) ∙ ap zeros count in
+    ap (λ (l : List ℕ). set l n 128) (ap₂ (λ (x y : List ℕ). x ++ y) e rest) ∙ set_at last 0 (zeros (127 - n)) 128 n refl
 
 -- eight bytes stored at the end of a block
 last_eight : (b front vs : List ℕ) → b ≡ front ++ zeros 8 → length front ≡ 120 → length vs ≡ 8 → sets b 120 vs ≡ front ++ vs

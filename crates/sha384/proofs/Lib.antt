@@ -3,3 +3,4 @@ pub mod Bytes
 pub mod Ended
 pub mod Hash
 pub mod Sizes
+pub mod Refused

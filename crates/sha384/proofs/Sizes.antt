@@ -1,10 +1,17 @@
 -- A digest is 48 bytes, each below 256, and so is what is extended by digests; and what the digest entry answers to a message that is not too long. Assumes nothing.
-use mathlib.Core.Path.{◌≡◌, refl}
+use mathlib.Core.Path.{◌≡◌, refl, sym, ap}
+use mathlib.Core.Bool.{Bool, true, false, true≢false, cond}
 use mathlib.Core.List.{List, [], ◌∷◌, ◌++◌}
 use Prim.Native.Nat.{ℕ, zero, suc, ◌≤◌, ◌<◌}
 use native.Mathlib.Omega.{arith}
-use borrow.Author.Tests.{le-leb}
+use borrow.Author.Tests.{le-leb, leb-true, leb-false}
+use lib.Dec.{leb}
 use lib.ListN.{length, get_or}
+use Rattle.std.specs.Prelude.{Result, Ok, Err, is_ok}
+use Rattle.std.specs.Result.{result_unwrap_or}
+use Rattle.sha384.specs.Errors.{error_number, number_of}
+use Rattle.sha384.specs.declared.errors.DigestError.{DigestError}
+use Rattle.sha384.specs.declared.errors.DigestError.TheVariants.{TooLong}
 use Rattle.sha384.specs.Sha384.{bytes_of, first_six, hash_of, sha384}
 use Rattle.sha384.specs.Entries.{longest, digest_of, extended, extended_by_each}
 
@@ -62,6 +69,25 @@ measure_each x d [] = measure_extended x d
 measure_each x d (e ∷ ds) = measure_each (extended x d) e ds
 
 -- a message that is not too long gets its digest
-pub digest_of_short : (m : List ℕ) → length m ≤ longest → digest_of m ≡ record { number = 0; bytes = sha384 m }
+pub digest_of_short : (m : List ℕ) → length m ≤ longest → digest_of m ≡ Ok (sha384 m)
 unfolding digest_of
 digest_of_short m h = rw (le-leb (length m) longest h)
+
+-- a digest is that of a message that is not too long, and a refusal is that of a longer one
+pub digest_told : (m x : List ℕ) → Ok x ≡ digest_of m → (length m ≤ longest) × (x ≡ sha384 m)
+unfolding digest_of
+digest_told m x e = by (leb (length m) longest) refl e
+  where
+    by : (b : Bool) → leb (length m) longest ≡ b → Ok x ≡ cond {A = Result (List ℕ) DigestError} b (Ok (sha384 m)) (Err TooLong)
+        → (length m ≤ longest) × (x ≡ sha384 m)
+    by true p h = (leb-true (length m) longest p, ap (λ (r : Result (List ℕ) DigestError). result_unwrap_or r x) h)
+    by false p h = absurd (true≢false (ap is_ok h))
+
+pub digest_refused : (m : List ℕ) (e : DigestError) → Err e ≡ digest_of m → (longest < length m) × (error_number e ≡ 10)
+unfolding digest_of
+digest_refused m e h = by (leb (length m) longest) refl h
+  where
+    by : (b : Bool) → leb (length m) longest ≡ b → Err e ≡ cond {A = Result (List ℕ) DigestError} b (Ok (sha384 m)) (Err TooLong)
+        → (longest < length m) × (error_number e ≡ 10)
+    by true p g = absurd (true≢false (sym (ap is_ok g)))
+    by false p g = (leb-false (length m) longest p, ap number_of g)

@@ -1,21 +1,19 @@
 -- What document 01's digest entry answers, "x extended by d" and by each of a list, and the digest from a hash value on. Assumes nothing.
-use Rattle.std.specs.Prelude.{ℕ, ◌/◌, ◌%◌, cond, leb, length, take, replicate}
+use Rattle.std.specs.Prelude.{ℕ, ◌/◌, ◌%◌, cond, leb, length, take, Result, Ok, Err}
 use mathlib.Core.List.{List, ◌++◌, foldl}
 use Rattle.sha_block.specs.Blocks.{hashed, hash_value}
 use Rattle.sha384.specs.Constants.{constants}
 use Rattle.sha384.specs.Sha384.{padding, first_six, sha384}
-use Rattle.sha384.specs.declared.digest.DigestResult.{DigestResult}
+use Rattle.sha384.specs.declared.errors.DigestError.{DigestError}
+use Rattle.sha384.specs.declared.errors.DigestError.TheVariants.{TooLong}
 
 -- "Digest of any byte string from 0 to 65,535 bytes"
 abbrev pub longest : ℕ
 longest = 65535
 
--- the digest entry: 0 and the digest, or 10 and "48 zero bytes"
-unfoldable pub digest_of : List ℕ → DigestResult
-digest_of m =
-    cond (leb (length m) longest)
-    (record { number = 0; bytes = sha384 m })
-    (record { number = 10; bytes = replicate 48 0 })
+-- the digest entry: the digest, or a message that is too long
+unfoldable pub digest_of : List ℕ → Result (List ℕ) DigestError
+digest_of m = cond (leb (length m) longest) (Ok (sha384 m)) (Err TooLong)
 
 -- "x extended by d" is SHA-384 of the 48 bytes x followed by the 48 bytes d
 unfoldable pub extended : List ℕ → List ℕ → List ℕ

@@ -3,7 +3,7 @@ ghost use Rattle.std.specs.Prelude.{◌≡◌};
 ghost use Rattle.sha_block.specs.Blocks.{hash_words};
 ghost use Rattle.sha384.specs.Constants.{initial_of};
 
-// K_0 to K_79. An indexed constant is written to the stack at each use: copy it once and lend it.
+// K_0 to K_79. An indexed constant is written to the stack at each use: lend it as `&K`.
 pub const K: [u64; 80] = [
     0x428a2f98d728ae22,
     0x7137449123ef65cd,

@@ -5,18 +5,12 @@ ghost use Rattle.sha384.specs.Sha384.{first_six, sha384};
 ghost use Rattle.sha384.specs.Entries.{longest, digest_of, extended, concluded};
 
 use crate::constants::{K, initial};
+use crate::errors::DigestError;
 use crate::padding::{conclude, put_word};
 use sha_block::blocks::absorb;
 
 // The longest message, in bytes.
 pub const LONGEST: usize = 65535;
-
-// A digest with number 0; or 48 zero bytes with the number of the refusal.
-#[derive(Clone, Copy)]
-pub struct DigestResult {
-    pub number: u32,
-    pub bytes: [u8; 48],
-}
 
 // The bytes of the first six words.
 fn first_six(h: [u64; 8]) -> [u8; 48]
@@ -37,28 +31,22 @@ fn hash(message: &[u8]) -> [u8; 48]
     requires { length message.now ≤ longest }
     ensures { result ≡ sha384 message.now }
 {
-    let k = K;
     let mut h = initial();
     let n = message.len();
     let whole = n / 128 * 128;
-    absorb(&k, &mut h, message);
-    conclude(&k, &mut h, &message[whole..], n as u64);
+    absorb(&K, &mut h, message);
+    conclude(&K, &mut h, &message[whole..], n as u64);
     first_six(h)
 }
 
-// The digest of a message of at most 65,535 bytes; a longer one is refused with 10.
-pub fn digest(message: &[u8]) -> DigestResult
+// The digest of a message of at most 65,535 bytes; a longer one is refused.
+pub fn digest(message: &[u8]) -> Result<[u8; 48], DigestError>
     ensures { result ≡ digest_of message.now }
 {
-    if message.len() <= LONGEST {
-        let bytes = hash(message);
-        DigestResult { number: 0, bytes }
-    } else {
-        DigestResult {
-            number: 10,
-            bytes: [0u8; 48],
-        }
+    if message.len() > LONGEST {
+        return Err(DigestError::TooLong);
     }
+    Ok(hash(message))
 }
 
 // The digest of a message of `total` bytes whose whole blocks have made the hash value `h`; the
@@ -66,10 +54,9 @@ pub fn digest(message: &[u8]) -> DigestResult
 pub fn conclude_digest(h: [u64; 8], last: [u8; 128], total: u32) -> [u8; 48]
     ensures { result ≡ concluded h last total }
 {
-    let k = K;
     let mut words = h;
     let n = (total % 128) as usize;
-    conclude(&k, &mut words, &last[..n], total as u64);
+    conclude(&K, &mut words, &last[..n], u64::from(total));
     first_six(words)
 }
 
@@ -78,8 +65,8 @@ fn joined(x: [u8; 48], d: [u8; 48]) -> [u8; 96]
     ensures { result ≡ x ++ d }
 {
     let mut out = [0u8; 96];
-    copying::copy(&x, &mut out);
-    copying::copy(&d, &mut out[48..]);
+    out[..48].copy_from_slice(&x);
+    out[48..].copy_from_slice(&d);
     out
 }
 

@@ -4,4 +4,5 @@
 
 pub mod constants;
 pub mod digest;
+pub mod errors;
 mod padding;

@@ -11,14 +11,7 @@ pub(crate) fn put_word(out: &mut [u8], at: usize, x: u64)
     requires { at + 8 ≤ length out.old }
     ensures { out.new ≡ sets out.old at (bytes_of 8 x) }
 {
-    out[at] = (x / 0x100000000000000 % 256) as u8;
-    out[at + 1] = (x / 0x1000000000000 % 256) as u8;
-    out[at + 2] = (x / 0x10000000000 % 256) as u8;
-    out[at + 3] = (x / 0x100000000 % 256) as u8;
-    out[at + 4] = (x / 0x1000000 % 256) as u8;
-    out[at + 5] = (x / 0x10000 % 256) as u8;
-    out[at + 6] = (x / 0x100 % 256) as u8;
-    out[at + 7] = (x % 256) as u8;
+    out[at..at + 8].copy_from_slice(&x.to_be_bytes());
 }
 
 // Runs the one or two blocks that end the padded message over the lent hash value: `last` is what
@@ -30,7 +23,7 @@ pub(crate) fn conclude(k: &[u64; 80], h: &mut [u64; 8], last: &[u8], total: u64)
     let n = last.len();
     let bits = total * 8;
     let mut block = [0u8; 128];
-    copying::copy(last, &mut block);
+    block[..n].copy_from_slice(last);
     block[n] = 128;
     if n < 112 {
         put_word(&mut block, 120, bits);

@@ -3,17 +3,19 @@
 // message on standard error and nothing on standard output.
 #![tactic(auto)]
 
-ghost use Rattle.std.specs.Prelude.{◌≡◌, ◌≢◌, ◌⊎◌, ◌%◌, ◌<◌, ◌≤◌, length, IfSome, IsTrue};
+ghost use Rattle.std.specs.Prelude.{◌≡◌, ◌⊎◌, ◌%◌, ◌<◌, length, IfSome, IfOk, IfErr, OnOk, IsErrOf};
 ghost use Rattle.std.specs.Io.KnownBytes.{Appends};
 ghost use Rattle.sha384.specs.Sha384.{sha384};
 ghost use Rattle.running.specs.Running.{longest_total};
 ghost use Rattle.sha384sum.specs.Hex.{digit_of, hex_of};
 ghost use Rattle.sha384sum.specs.Summed.{Digests, line_of};
-ghost use Rattle.sha384sum.specs.declared.Outcome.TheVariants.{Printed, Unread, TooLong};
+ghost use Rattle.sha384sum.specs.declared.SumError.TheVariants.{Unread, TooLong, Unwritten};
 
-use reading::read_whole;
+use reading::{ReadFailed, read_whole};
 use running::Running;
+use sha384::errors::DigestError;
 use std::io::{Read, Write};
+use std::{fmt, io};
 
 // The digit of a number's low four bits.
 #[tactic(auto, unfolding(crate::specs::Hex::digit_of))]
@@ -29,11 +31,9 @@ fn hex(bytes: [u8; 48]) -> [u8; 96]
     ensures { result ≡ hex_of bytes }
 {
     let mut out = [0u8; 96];
-    let mut i = 0;
-    while i < 48 {
-        out[2 * i] = digit(bytes[i] / 16);
-        out[2 * i + 1] = digit(bytes[i]);
-        i += 1;
+    for (i, byte) in bytes.iter().enumerate() {
+        out[2 * i] = digit(*byte / 16);
+        out[2 * i + 1] = digit(*byte);
     }
     out
 }
@@ -43,110 +43,91 @@ const SLICE: usize = 65280;
 
 const SLICES: usize = 65794;
 
-// What the input came to: whether it could be read to its end, the number of the feed that was refused,
-// or 0, and the state after the slices before.
-#[derive(Drop)]
-struct Input {
-    whole: bool,
-    number: u32,
-    state: Running,
-}
-
-fn ended(whole: bool, number: u32, state: Running) -> Input
-    ensures { result ≡ record { whole = whole; number = number; state = state } }
-{
-    Input {
-        whole,
-        number,
-        state,
-    }
-}
-
-// Feeds all of the input. A slice that is not full is the last; with no such slice among the
-// first SLICES the input is too long, which the last feed has refused.
-fn take_input<R: Read>(input: &mut R) -> Input
-    ensures digest { IfSome (R.remaining input.old) (λ xs. IsTrue result.whole → result.number ≡ 0 → Digests xs result.state) }
-    ensures too_long { IfSome (R.remaining input.old) (λ xs. IsTrue result.whole → result.number ≢ 0 → longest_total < length xs) }
-{
-    let mut space = [0u8; SLICE];
-    let mut state = running::begin();
-    for i in 0..SLICES {
-        let read = read_whole(input, &mut space);
-        let n = read.count;
-        let fed = state.feed(&space[..n]);
-        let next = fed.state;
-        state = next;
-        if !read.whole || fed.number != 0 || n < SLICE {
-            return ended(read.whole, fed.number, state);
-        }
-    }
-    ended(true, TOO_LONG, state)
-}
-
-// A feed's refusal of a total that would be too large.
-const TOO_LONG: u32 = 16;
-
-// Writes a digest's line, and tells whether that was done.
-fn print<W: Write>(out: &mut W, bytes: [u8; 48]) -> bool
-    ensures { IsTrue result → Appends (W.contents out.old) (W.contents out.new) (line_of bytes) }
-{
-    let text = hex(bytes);
-    out.write_all(&text).is_ok() && out.write_all(b"  -\n").is_ok()
-}
-
-// What a run came to.
-#[derive(Clone, Copy)]
-enum Outcome {
-    Printed,
+// Why no digest was printed.
+#[derive(Clone, Copy, Debug, PartialEq, Eq)]
+enum SumError {
     Unread,
     TooLong,
     Unwritten,
 }
 
-// Reads an input to its end, and prints its digest.
-fn sum<R: Read, W: Write>(input: &mut R, out: &mut W) -> Outcome
-    ensures printed { IfSome (R.remaining input.old) (λ xs. result ≡ Printed → Appends (W.contents out.old) (W.contents out.new) (line_of (sha384 xs))) }
-    ensures too_long { IfSome (R.remaining input.old) (λ xs. result ≡ TooLong → longest_total < length xs) }
-    ensures silent { (result ≡ Unread) ⊎ (result ≡ TooLong) → out.new ≡ out.old }
+impl fmt::Display for SumError {
+    fn fmt<W: fmt::Write>(&self, f: &mut fmt::Formatter<W>) -> fmt::Result {
+        match self {
+            SumError::Unread => write!(f, "the input cannot be read: no digest"),
+            SumError::TooLong => write!(f, "the input is longer than 4294967295 bytes: no digest"),
+            SumError::Unwritten => write!(f, "the digest cannot be written"),
+        }
+    }
+}
+
+impl From<ReadFailed> for SumError {
+    ghost from_gives = { λ _ e. e ≡ Unread };
+
+    fn from(_failed: ReadFailed) -> SumError {
+        SumError::Unread
+    }
+}
+
+// A running digest just begun, fed slices of 65,280 bytes, refuses only a total that would be too large.
+impl From<DigestError> for SumError {
+    ghost from_gives = { λ _ e. e ≡ TooLong };
+
+    fn from(_refused: DigestError) -> SumError {
+        SumError::TooLong
+    }
+}
+
+impl From<io::Error> for SumError {
+    ghost from_gives = { λ _ e. e ≡ Unwritten };
+
+    fn from(_failed: io::Error) -> SumError {
+        SumError::Unwritten
+    }
+}
+
+// Feeds all of the input. A slice that is not full is the last; with no such slice among the
+// first SLICES the input is too long, which the last feed has refused.
+fn take_input<R: Read>(input: &mut R) -> Result<Running, SumError>
+    ensures digest { IfOk result (λ st. IfSome (R.remaining input.old) (λ xs. Digests xs st)) }
+    ensures too_long { IsErrOf result SumError.TooLong → IfSome (R.remaining input.old) (λ xs. longest_total < length xs) }
 {
-    let taken = take_input(input);
-    if !taken.whole {
-        return Outcome::Unread;
+    let mut space = [0u8; SLICE];
+    let mut state = running::begin();
+    for i in 0..SLICES {
+        let n = read_whole(input, &mut space)?;
+        state.feed(&space[..n])?;
+        if n < SLICE {
+            return Ok(state);
+        }
     }
-    if taken.number != 0 {
-        return Outcome::TooLong;
-    }
-    let state = taken.state;
-    let answer = state.finish();
-    if !print(out, answer.bytes) {
-        return Outcome::Unwritten;
-    }
-    Outcome::Printed
+    Err(SumError::TooLong)
 }
 
-// A message on standard error. One that cannot be written either is lost.
-fn complain<W: Write>(errors: &mut W, why: &[u8]) {
-    let _ = errors.write_all(why);
+// Writes a digest's line.
+fn print<W: Write>(out: &mut W, bytes: [u8; 48]) -> Result<(), SumError>
+    ensures line { OnOk result (Appends (W.contents out.old) (W.contents out.new) (line_of bytes)) }
+    ensures err { IfErr result (λ e. e ≡ Unwritten) }
+{
+    out.write_all(&hex(bytes))?;
+    out.write_all(b"  -\n")?;
+    Ok(())
 }
 
+// Reads an input to its end, and prints its digest.
+fn sum<R: Read, W: Write>(input: &mut R, out: &mut W) -> Result<(), SumError>
+    ensures printed { OnOk result (IfSome (R.remaining input.old) (λ xs. Appends (W.contents out.old) (W.contents out.new) (line_of (sha384 xs)))) }
+    ensures too_long { IsErrOf result SumError.TooLong → IfSome (R.remaining input.old) (λ xs. longest_total < length xs) }
+    ensures silent { IsErrOf result SumError.Unread ⊎ IsErrOf result SumError.TooLong → out.new ≡ out.old }
+{
+    let state = take_input(input)?;
+    let bytes = state.finish()?;
+    print(out, bytes)
+}
+
+// A message that cannot be written either is lost.
 fn main(rt: HostRuntime) {
-    let mut errors = rt.stderr();
-    match sum(&mut rt.stdin(), &mut rt.stdout()) {
-        Outcome::Printed => {}
-        Outcome::Unread => {
-            complain(
-                &mut errors,
-                b"sha384sum: the input cannot be read: no digest\n",
-            );
-        }
-        Outcome::TooLong => {
-            complain(
-                &mut errors,
-                b"sha384sum: the input is longer than 4294967295 bytes: no digest\n",
-            );
-        }
-        Outcome::Unwritten => {
-            complain(&mut errors, b"sha384sum: the digest cannot be written\n");
-        }
+    if let Err(error) = sum(&mut rt.stdin(), &mut rt.stdout()) {
+        let _ = writeln!(rt.stderr(), "sha384sum: {error}");
     }
 }

@@ -5,28 +5,16 @@
 ghost use Rattle.std.specs.Prelude.{◌≡◌, ◌+◌, ◌*◌, ◌/◌, ◌<◌, ◌≤◌, length, slice_set};
 ghost use Rattle.sha_block.specs.Rounds.{round_of, turns};
 ghost use Rattle.sha_block.specs.Schedule.{at, schedule, ring_next, ring_after, ring_word};
-ghost use Rattle.sha_block.specs.Blocks.{word_of, word_at, block_words, block_of, absorbed};
+ghost use Rattle.sha_block.specs.Blocks.{word_at, block_words, block_of, absorbed};
 
 use crate::rounds::{next, round, sum};
-use crate::state::{State, state_of, words_of};
-
-fn word(b0: u8, b1: u8, b2: u8, b3: u8, b4: u8, b5: u8, b6: u8, b7: u8) -> u64
-    ensures { result ≡ word_of b0 b1 b2 b3 b4 b5 b6 b7 }
-{
-    let x1 = (b0 as u64) * 256 + (b1 as u64);
-    let x2 = x1 * 256 + (b2 as u64);
-    let x3 = x2 * 256 + (b3 as u64);
-    let x4 = x3 * 256 + (b4 as u64);
-    let x5 = x4 * 256 + (b5 as u64);
-    let x6 = x5 * 256 + (b6 as u64);
-    x6 * 256 + (b7 as u64)
-}
+use crate::state::State;
 
 fn word_at(s: &[u8], i: usize) -> u64
     requires { i + 8 ≤ length s.now }
     ensures { result ≡ word_at s.now i }
 {
-    word(
+    u64::from_be_bytes([
         s[i],
         s[i + 1],
         s[i + 2],
@@ -35,7 +23,7 @@ fn word_at(s: &[u8], i: usize) -> u64
         s[i + 5],
         s[i + 6],
         s[i + 7],
-    )
+    ])
 }
 
 // Round t below 16, at the word t of the block that starts at the byte `from`; the ring takes it up.
@@ -57,6 +45,7 @@ fn first_round(
 }
 
 // Rounds 0 to 15, at the sixteen words of the block that starts at the byte `from`; they fill the ring.
+// They are written out as `sixteen_rounds` are.
 fn first_rounds(k: &[u64; 80], w: &mut [u64; 16], h: State, bytes: &[u8], from: usize) -> State
     requires { (length w.old ≡ 16) × (from + 128 ≤ length bytes.now) }
     ensures value { result ≡ turns (at k.now) (at (schedule 64 (block_words bytes.now from 16))) 16 h }
@@ -122,10 +111,8 @@ fn ring_rounds(k: &[u64; 80], w: &mut [u64; 16], h: State) -> State
     ensures { result ≡ turns (λ j. at k.now (16 + j)) (λ j. at (schedule 64 w.old) (16 + j)) 64 h }
 {
     let mut s = h;
-    let mut t = 16;
-    while t < 80 {
-        s = sixteen_rounds(k, w, t, s);
-        t += 16;
+    for i in 1..5 {
+        s = sixteen_rounds(k, w, 16 * i, s);
     }
     s
 }
@@ -145,11 +132,7 @@ fn block(k: &[u64; 80], h: State, bytes: &[u8], from: usize) -> State
 pub fn absorb(k: &[u64; 80], h: &mut [u64; 8], bytes: &[u8])
     ensures { h.new ≡ absorbed k.now h.old bytes.now (length bytes.now / 128) }
 {
-    let blocks = bytes.len() / 128;
-    let mut q = 0;
-    while q < blocks {
-        let before = *h;
-        *h = words_of(block(k, state_of(before), bytes, q * 128));
-        q += 1;
+    for q in 0..bytes.len() / 128 {
+        *h = <[u64; 8]>::from(block(k, State::from(*h), bytes, q * 128));
     }
 }

@@ -6,20 +6,19 @@ ghost use Rattle.sha_block.specs.Schedule.{next_of};
 
 use crate::state::State;
 use crate::words::{big0, big1, choose, majority, small0, small1};
-use std::num::wrapping_add_u64;
 
 fn temp1(e: u64, f: u64, g: u64, h: u64, k: u64, w: u64) -> u64
     ensures { result ≡ T1 e f g h k w }
 {
-    let x = wrapping_add_u64(h, big1(e));
-    let y = wrapping_add_u64(choose(e, f, g), k);
-    wrapping_add_u64(wrapping_add_u64(x, y), w)
+    let x = h.wrapping_add(big1(e));
+    let y = choose(e, f, g).wrapping_add(k);
+    x.wrapping_add(y).wrapping_add(w)
 }
 
 fn temp2(a: u64, b: u64, c: u64) -> u64
     ensures { result ≡ T2 a b c }
 {
-    wrapping_add_u64(big0(a), majority(a, b, c))
+    big0(a).wrapping_add(majority(a, b, c))
 }
 
 pub(crate) fn round(s: State, k: u64, w: u64) -> State
@@ -27,8 +26,8 @@ pub(crate) fn round(s: State, k: u64, w: u64) -> State
 {
     let t1 = temp1(s.e, s.f, s.g, s.h, k, w);
     let t2 = temp2(s.a, s.b, s.c);
-    let a = wrapping_add_u64(t1, t2);
-    let e = wrapping_add_u64(s.d, t1);
+    let a = t1.wrapping_add(t2);
+    let e = s.d.wrapping_add(t1);
     State {
         a,
         b: s.a,
@@ -44,14 +43,14 @@ pub(crate) fn round(s: State, k: u64, w: u64) -> State
 pub(crate) fn sum(x: State, y: State) -> State
     ensures { result ≡ next_hash x y }
 {
-    let a = wrapping_add_u64(x.a, y.a);
-    let b = wrapping_add_u64(x.b, y.b);
-    let c = wrapping_add_u64(x.c, y.c);
-    let d = wrapping_add_u64(x.d, y.d);
-    let e = wrapping_add_u64(x.e, y.e);
-    let f = wrapping_add_u64(x.f, y.f);
-    let g = wrapping_add_u64(x.g, y.g);
-    let h = wrapping_add_u64(x.h, y.h);
+    let a = x.a.wrapping_add(y.a);
+    let b = x.b.wrapping_add(y.b);
+    let c = x.c.wrapping_add(y.c);
+    let d = x.d.wrapping_add(y.d);
+    let e = x.e.wrapping_add(y.e);
+    let f = x.f.wrapping_add(y.f);
+    let g = x.g.wrapping_add(y.g);
+    let h = x.h.wrapping_add(y.h);
     State {
         a,
         b,
@@ -68,7 +67,7 @@ pub(crate) fn sum(x: State, y: State) -> State
 pub(crate) fn next(w2: u64, w7: u64, w15: u64, w16: u64) -> u64
     ensures { result ≡ next_of w2 w7 w15 w16 }
 {
-    let x = wrapping_add_u64(small1(w2), w7);
-    let y = wrapping_add_u64(small0(w15), w16);
-    wrapping_add_u64(x, y)
+    let x = small1(w2).wrapping_add(w7);
+    let y = small0(w15).wrapping_add(w16);
+    x.wrapping_add(y)
 }

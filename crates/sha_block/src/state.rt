@@ -16,23 +16,27 @@ pub struct State {
 }
 
 // The working variables at the start of a block: the hash value's words H_0 to H_7.
-pub(crate) fn state_of(h: [u64; 8]) -> State
-    ensures { result ≡ hash_value h }
-{
-    State {
-        a: h[0],
-        b: h[1],
-        c: h[2],
-        d: h[3],
-        e: h[4],
-        f: h[5],
-        g: h[6],
-        h: h[7],
+impl From<[u64; 8]> for State {
+    ghost from_gives = { λ h s. s ≡ hash_value h };
+
+    fn from(h: [u64; 8]) -> State {
+        State {
+            a: h[0],
+            b: h[1],
+            c: h[2],
+            d: h[3],
+            e: h[4],
+            f: h[5],
+            g: h[6],
+            h: h[7],
+        }
     }
 }
 
-pub(crate) fn words_of(s: State) -> [u64; 8]
-    ensures { result ≡ hash_words s }
-{
-    [s.a, s.b, s.c, s.d, s.e, s.f, s.g, s.h]
+impl From<State> for [u64; 8] {
+    ghost from_gives = { λ s h. h ≡ hash_words s };
+
+    fn from(s: State) -> [u64; 8] {
+        [s.a, s.b, s.c, s.d, s.e, s.f, s.g, s.h]
+    }
 }

@@ -1,13 +1,14 @@
 // A kind of work as three numbers, and the kind that any three numbers are.
 ghost use Rattle.std.specs.Prelude.{◌≡◌};
-ghost use Rattle.table.specs.Coding.{coded_of, is_kind, kind_of};
+ghost use Rattle.table.specs.Coding.{coded_as, coded_of, is_kind, kind_of};
 
 use crate::{Kind, StashAt};
 
 // How many kinds there are.
 const KINDS: u32 = 11;
 
-// A kind's number and its two indices; one that it does not have is 0.
+// A kind's number and its two indices; one that it does not have is 0. The numbers stay: they are the C interface's,
+// word 0 of a work buffer.
 #[derive(Clone, Copy)]
 pub struct Coded {
     pub number: u32,
@@ -15,66 +16,42 @@ pub struct Coded {
     pub second: usize,
 }
 
+impl Coded {
+    fn new(number: u32, first: usize, second: usize) -> Coded
+        ensures { result ≡ coded_as number first second }
+    {
+        Coded {
+            number,
+            first,
+            second,
+        }
+    }
+}
+
 #[tactic(auto, unfolding(crate::specs::Coding::coded_of))]
 pub fn encode(kind: Kind) -> Coded
     ensures { result ≡ coded_of kind }
 {
     match kind {
-        Kind::Nothing => Coded {
-            number: 0,
-            first: 0,
-            second: 0,
-        },
-        Kind::Disabling => Coded {
-            number: 1,
-            first: 0,
-            second: 0,
-        },
-        Kind::Stash(at) => Coded {
-            number: 2,
-            first: at.node,
-            second: at.holder,
-        },
-        Kind::Update(root) => Coded {
-            number: 3,
-            first: root,
-            second: 0,
-        },
-        Kind::ColdBoot => Coded {
-            number: 4,
-            first: 0,
-            second: 0,
-        },
-        Kind::Extension(register) => Coded {
-            number: 5,
-            first: register,
-            second: 0,
-        },
-        Kind::Derive(i) => Coded {
-            number: 6,
-            first: i,
-            second: 0,
-        },
-        Kind::Replace(at) => Coded {
-            number: 7,
-            first: at.node,
-            second: at.holder,
-        },
-        Kind::Extend(i) => Coded {
-            number: 8,
-            first: i,
-            second: 0,
-        },
-        Kind::Rotate(i) => Coded {
-            number: 9,
-            first: i,
-            second: 0,
-        },
-        Kind::Destroy(count) => Coded {
-            number: 10,
-            first: count,
-            second: 0,
-        },
+        Kind::Nothing => Coded::new(0, 0, 0),
+        Kind::Disabling => Coded::new(1, 0, 0),
+        Kind::Stash(at) => Coded::new(2, at.node, at.holder),
+        Kind::Update(root) => Coded::new(3, root, 0),
+        Kind::ColdBoot => Coded::new(4, 0, 0),
+        Kind::Extension(register) => Coded::new(5, register, 0),
+        Kind::Derive(i) => Coded::new(6, i, 0),
+        Kind::Replace(at) => Coded::new(7, at.node, at.holder),
+        Kind::Extend(i) => Coded::new(8, i, 0),
+        Kind::Rotate(i) => Coded::new(9, i, 0),
+        Kind::Destroy(count) => Coded::new(10, count, 0),
+    }
+}
+
+impl From<Kind> for Coded {
+    ghost from_gives = { λ k c. c ≡ coded_of k };
+
+    fn from(kind: Kind) -> Coded {
+        encode(kind)
     }
 }
 
@@ -107,5 +84,13 @@ pub fn decode(coded: Coded) -> Kind
         9 => Kind::Rotate(coded.first),
         10 => Kind::Destroy(coded.first),
         _ => Kind::Nothing,
+    }
+}
+
+impl From<Coded> for Kind {
+    ghost from_gives = { λ c k. k ≡ kind_of c };
+
+    fn from(coded: Coded) -> Kind {
+        decode(coded)
     }
 }

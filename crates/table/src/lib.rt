@@ -20,7 +20,7 @@ use layout::{CURRENT_AT, HANDLE_AT, HANDLE_WORDS, NODE_WORDS, NODES};
 use packing::word;
 
 // Where a stash stores: the new node, and the node that held the default handle.
-#[derive(Clone, Copy)]
+#[derive(Clone, Copy, Debug, PartialEq, Eq)]
 pub struct StashAt {
     pub node: usize,
     pub holder: usize,
@@ -29,7 +29,7 @@ pub struct StashAt {
 // An update carries its root's index: a well-formed image's root may be any node. An extension carries its
 // register. Of a tree command: a derived child's node, and where its parent is retired that too (`Replace`);
 // the node of an extend or a rotate; how many nodes a destroy frees, whose indices are the work's node words.
-#[derive(Clone, Copy)]
+#[derive(Clone, Copy, Debug, PartialEq, Eq)]
 pub enum Kind {
     Nothing,
     Disabling,
@@ -49,6 +49,21 @@ pub enum Kind {
 pub struct Put {
     pub address: usize,
     pub value: u32,
+}
+
+// A store that nobody makes.
+const NO_STORE: Put = Put {
+    address: 0,
+    value: 0,
+};
+
+// The words that a work prepares, lent: what its stores take their values from.
+#[derive(Clone, Copy)]
+pub struct Prepared<'a> {
+    pub register: &'a [u32],
+    pub journey: &'a [u32],
+    pub node: &'a [u32],
+    pub secret: &'a [u32],
 }
 
 // The number of stores of a kind of work.
@@ -105,57 +120,35 @@ pub fn index_ok(kind: Kind, node: &[u32]) -> bool
 }
 
 // Store k of a kind of work that has it.
-fn row_put<'a>(
-    kind: Kind,
-    k: usize,
-    register: &'a [u32],
-    journey: &'a [u32],
-    node: &'a [u32],
-    secret: &'a [u32],
-) -> Put
-    requires node_value { index_ok kind node.now ≡ true }
+fn row_put(kind: Kind, k: usize, words: &Prepared) -> Put
+    requires node_value { index_ok kind words.now.node.now ≡ true }
     requires k_bound { k < number_of kind }
-    ensures value { result ≡ put_from 0 (runs_for kind register.now journey.now node.now secret.now) k }
+    ensures value { result ≡ put_from 0 (runs_for kind words.now.register.now words.now.journey.now words.now.node.now words.now.secret.now) k }
     ensures address_lt_image_words { result.address < image_words }
 {
     match kind {
-        Kind::Nothing => Put {
-            address: 0,
-            value: 0,
-        },
+        Kind::Nothing => NO_STORE,
         Kind::Disabling => disabling_put(k),
-        Kind::Stash(at) => stash_put(at, register, node, k),
-        Kind::Update(root) => update_put(root, register, journey, node, secret, k),
-        Kind::ColdBoot => cold_put(register, journey, node, secret, k),
-        Kind::Extension(at) => extension_put(at, register, k),
-        Kind::Derive(i) => part_put(i, 0, NODE_WORDS, node, k),
-        Kind::Replace(at) => replace_put(at, node, k),
-        Kind::Extend(i) => part_put(i, CURRENT_AT, EXTEND_WORDS, node, k),
-        Kind::Rotate(i) => part_put(i, HANDLE_AT, HANDLE_WORDS, node, k),
-        Kind::Destroy(count) => destroy_put(count, node, k),
+        Kind::Stash(at) => stash_put(at, words.register, words.node, k),
+        Kind::Update(root) => update_put(root, words, k),
+        Kind::ColdBoot => cold_put(words, k),
+        Kind::Extension(at) => extension_put(at, words.register, k),
+        Kind::Derive(i) => part_put(i, 0, NODE_WORDS, words.node, k),
+        Kind::Replace(at) => replace_put(at, words.node, k),
+        Kind::Extend(i) => part_put(i, CURRENT_AT, EXTEND_WORDS, words.node, k),
+        Kind::Rotate(i) => part_put(i, HANDLE_AT, HANDLE_WORDS, words.node, k),
+        Kind::Destroy(count) => destroy_put(count, words.node, k),
     }
 }
 
 // Store k of a kind of work; of a kind with an index that is not fine, or past its last store, a store that
 // nobody makes.
-pub fn put_at<'a>(
-    kind: Kind,
-    k: usize,
-    register: &'a [u32],
-    journey: &'a [u32],
-    node: &'a [u32],
-    secret: &'a [u32],
-) -> Put
-    ensures value { result ≡ store_at kind k register.now journey.now node.now secret.now }
+pub fn put_at(kind: Kind, k: usize, words: &Prepared) -> Put
+    ensures value { result ≡ store_at kind k words.now.register.now words.now.journey.now words.now.node.now words.now.secret.now }
     ensures address_lt_image_words { result.address < image_words }
 {
-    if index_ok(kind, node) {
-        if k < number(kind) {
-            return row_put(kind, k, register, journey, node, secret);
-        }
+    if index_ok(kind, words.node) && k < number(kind) {
+        return row_put(kind, k, words);
     }
-    Put {
-        address: 0,
-        value: 0,
-    }
+    NO_STORE
 }

@@ -8,7 +8,7 @@ ghost use Rattle.layout.specs.Sizes.{node_count, node_words, extend_last, image_
 ghost use Rattle.table.specs.Table.{total, put_from, stash_runs, disabling_runs, update_runs, cold_runs, extension_runs, part_runs, replace_runs, destroy_runs, number_of};
 ghost use Rattle.table.specs.declared.Kind.TheVariants.{Destroy};
 
-use crate::{Put, StashAt};
+use crate::{Prepared, Put, StashAt};
 use layout::{
     ATTESTATION_AT, CUMULATIVE_AT, CURRENT_AT, HANDLE_AT, HANDLE_WORDS, IMAGE_WORDS, MARK_AT,
     NODE_WORDS, NODES, NODES_AT, PCR2_AT, PCR3_AT, PCR31_AT, REGISTER_WORDS, REGISTERS_AT,
@@ -16,16 +16,22 @@ use layout::{
 };
 use packing::word;
 
-// The mark's values, and attestation's.
-const UNFINISHED: u32 = 0;
+// Each row begins with mark 0 and ends with mark 1.
+const BEGIN: Put = Put {
+    address: MARK_AT,
+    value: 0,
+};
 
-const DONE: u32 = 1;
+const END: Put = Put {
+    address: MARK_AT,
+    value: 1,
+};
 
+// Attestation's values: disabling and cold boot go on with it.
 const OFF: u32 = 0;
 
 const ON: u32 = 1;
 
-// Each row begins with mark 0 and ends with mark 1; disabling and cold boot go on with attestation.
 const MARK_END: usize = 1;
 
 const ATTESTATION_END: usize = MARK_END + 1;
@@ -47,10 +53,7 @@ pub(crate) fn stash_put<'a>(at: StashAt, register: &'a [u32], node: &'a [u32], k
     ensures address_lt_image_words { result.address < image_words }
 {
     if k < MARK_END {
-        return Put {
-            address: MARK_AT,
-            value: UNFINISHED,
-        };
+        return BEGIN;
     }
     if k < STASH_REGISTER_END {
         return Put {
@@ -70,10 +73,7 @@ pub(crate) fn stash_put<'a>(at: StashAt, register: &'a [u32], node: &'a [u32], k
             value: RETIRED_WORD,
         };
     }
-    Put {
-        address: MARK_AT,
-        value: DONE,
-    }
+    END
 }
 
 // Disabling: mark 0; word 1 zero; secret zero; mark 1.
@@ -87,10 +87,7 @@ pub(crate) fn disabling_put(k: usize) -> Put
     ensures address_lt_image_words { result.address < image_words }
 {
     if k < MARK_END {
-        return Put {
-            address: MARK_AT,
-            value: UNFINISHED,
-        };
+        return BEGIN;
     }
     if k < ATTESTATION_END {
         return Put {
@@ -104,10 +101,7 @@ pub(crate) fn disabling_put(k: usize) -> Put
             value: 0,
         };
     }
-    Put {
-        address: MARK_AT,
-        value: DONE,
-    }
+    END
 }
 
 // Update: mark 0; PCR2; PCR3; secret; root's current; root's cumulative; mark 1.
@@ -123,59 +117,46 @@ const UPDATE_CUMULATIVE_END: usize = UPDATE_CURRENT_END + REGISTER_WORDS;
 
 pub(crate) const UPDATE_STORES: usize = UPDATE_CUMULATIVE_END + 1;
 
-pub(crate) fn update_put<'a>(
-    root: usize,
-    register: &'a [u32],
-    journey: &'a [u32],
-    node: &'a [u32],
-    secret: &'a [u32],
-    k: usize,
-) -> Put
+pub(crate) fn update_put(root: usize, words: &Prepared, k: usize) -> Put
     requires root_lt_node_count { root < node_count }
-    requires k_bound { k < total (update_runs root register.now journey.now node.now secret.now) }
-    ensures value { result ≡ put_from 0 (update_runs root register.now journey.now node.now secret.now) k }
+    requires k_bound { k < total (update_runs root words.now.register.now words.now.journey.now words.now.node.now words.now.secret.now) }
+    ensures value { result ≡ put_from 0 (update_runs root words.now.register.now words.now.journey.now words.now.node.now words.now.secret.now) k }
     ensures address_lt_image_words { result.address < image_words }
 {
     if k < MARK_END {
-        return Put {
-            address: MARK_AT,
-            value: UNFINISHED,
-        };
+        return BEGIN;
     }
     if k < UPDATE_REGISTER_END {
         return Put {
             address: PCR2_AT + (k - MARK_END),
-            value: word(register, k - MARK_END),
+            value: word(words.register, k - MARK_END),
         };
     }
     if k < UPDATE_JOURNEY_END {
         return Put {
             address: PCR3_AT + (k - UPDATE_REGISTER_END),
-            value: word(journey, k - UPDATE_REGISTER_END),
+            value: word(words.journey, k - UPDATE_REGISTER_END),
         };
     }
     if k < UPDATE_SECRET_END {
         return Put {
             address: SECRET_AT + (k - UPDATE_JOURNEY_END),
-            value: word(secret, k - UPDATE_JOURNEY_END),
+            value: word(words.secret, k - UPDATE_JOURNEY_END),
         };
     }
     if k < UPDATE_CURRENT_END {
         return Put {
             address: NODES_AT + NODE_WORDS * root + CURRENT_AT + (k - UPDATE_SECRET_END),
-            value: word(node, CURRENT_AT + (k - UPDATE_SECRET_END)),
+            value: word(words.node, CURRENT_AT + (k - UPDATE_SECRET_END)),
         };
     }
     if k < UPDATE_CUMULATIVE_END {
         return Put {
             address: NODES_AT + NODE_WORDS * root + CUMULATIVE_AT + (k - UPDATE_CURRENT_END),
-            value: word(node, CUMULATIVE_AT + (k - UPDATE_CURRENT_END)),
+            value: word(words.node, CUMULATIVE_AT + (k - UPDATE_CURRENT_END)),
         };
     }
-    Put {
-        address: MARK_AT,
-        value: DONE,
-    }
+    END
 }
 
 // Cold boot: mark 0; words 1 to the last; mark 1. Store k stores word k, so most ends are where the
@@ -186,22 +167,13 @@ const COLD_ROOT_END: usize = NODES_AT + NODE_WORDS;
 
 pub(crate) const COLD_STORES: usize = IMAGE_WORDS + 1;
 
-pub(crate) fn cold_put<'a>(
-    register: &'a [u32],
-    journey: &'a [u32],
-    node: &'a [u32],
-    secret: &'a [u32],
-    k: usize,
-) -> Put
-    requires { k < total (cold_runs register.now journey.now node.now secret.now) }
-    ensures value { result ≡ put_from 0 (cold_runs register.now journey.now node.now secret.now) k }
+pub(crate) fn cold_put(words: &Prepared, k: usize) -> Put
+    requires { k < total (cold_runs words.now.register.now words.now.journey.now words.now.node.now words.now.secret.now) }
+    ensures value { result ≡ put_from 0 (cold_runs words.now.register.now words.now.journey.now words.now.node.now words.now.secret.now) k }
     ensures address_lt_image_words { result.address < image_words }
 {
     if k < MARK_END {
-        return Put {
-            address: MARK_AT,
-            value: UNFINISHED,
-        };
+        return BEGIN;
     }
     if k < ATTESTATION_END {
         return Put {
@@ -218,7 +190,7 @@ pub(crate) fn cold_put<'a>(
     if k < REGISTERS_AT {
         return Put {
             address: k,
-            value: word(secret, k - SECRET_AT),
+            value: word(words.secret, k - SECRET_AT),
         };
     }
     if k < PCR2_AT {
@@ -230,13 +202,13 @@ pub(crate) fn cold_put<'a>(
     if k < PCR3_AT {
         return Put {
             address: k,
-            value: word(register, k - PCR2_AT),
+            value: word(words.register, k - PCR2_AT),
         };
     }
     if k < COLD_JOURNEY_END {
         return Put {
             address: k,
-            value: word(journey, k - PCR3_AT),
+            value: word(words.journey, k - PCR3_AT),
         };
     }
     if k < NODES_AT {
@@ -248,7 +220,7 @@ pub(crate) fn cold_put<'a>(
     if k < COLD_ROOT_END {
         return Put {
             address: k,
-            value: word(node, k - NODES_AT),
+            value: word(words.node, k - NODES_AT),
         };
     }
     if k < IMAGE_WORDS {
@@ -257,10 +229,7 @@ pub(crate) fn cold_put<'a>(
             value: 0,
         };
     }
-    Put {
-        address: MARK_AT,
-        value: DONE,
-    }
+    END
 }
 
 // Extension: mark 0; the register; mark 1.
@@ -275,10 +244,7 @@ pub(crate) fn extension_put<'a>(at: usize, register: &'a [u32], k: usize) -> Put
     ensures address_lt_image_words { result.address < image_words }
 {
     if k < MARK_END {
-        return Put {
-            address: MARK_AT,
-            value: UNFINISHED,
-        };
+        return BEGIN;
     }
     if k < EXTENSION_REGISTER_END {
         return Put {
@@ -286,10 +252,7 @@ pub(crate) fn extension_put<'a>(at: usize, register: &'a [u32], k: usize) -> Put
             value: word(register, k - MARK_END),
         };
     }
-    Put {
-        address: MARK_AT,
-        value: DONE,
-    }
+    END
 }
 
 // Words of one node, as many as `words` from its word `from` on: mark 0; the words; mark 1. A derived child's
@@ -310,10 +273,7 @@ pub(crate) fn part_put<'a>(i: usize, from: usize, words: usize, node: &'a [u32],
     ensures address_lt_image_words { result.address < image_words }
 {
     if k < MARK_END {
-        return Put {
-            address: MARK_AT,
-            value: UNFINISHED,
-        };
+        return BEGIN;
     }
     if k < MARK_END + words {
         return Put {
@@ -321,10 +281,7 @@ pub(crate) fn part_put<'a>(i: usize, from: usize, words: usize, node: &'a [u32],
             value: word(node, from + (k - MARK_END)),
         };
     }
-    Put {
-        address: MARK_AT,
-        value: DONE,
-    }
+    END
 }
 
 // Derive without retain: mark 0; the new node; the parent's five handle words; mark 1.
@@ -342,10 +299,7 @@ pub(crate) fn replace_put<'a>(at: StashAt, node: &'a [u32], k: usize) -> Put
     ensures address_lt_image_words { result.address < image_words }
 {
     if k < MARK_END {
-        return Put {
-            address: MARK_AT,
-            value: UNFINISHED,
-        };
+        return BEGIN;
     }
     if k < REPLACE_NODE_END {
         return Put {
@@ -359,10 +313,7 @@ pub(crate) fn replace_put<'a>(at: StashAt, node: &'a [u32], k: usize) -> Put
             value: RETIRED_WORD,
         };
     }
-    Put {
-        address: MARK_AT,
-        value: DONE,
-    }
+    END
 }
 
 // Destroy: mark 0; the freed nodes, upwards, all zero; mark 1. More nodes than there are have no stores.
@@ -383,10 +334,7 @@ pub(crate) fn destroy_put<'a>(count: usize, freed: &'a [u32], k: usize) -> Put
     ensures address_lt_image_words { result.address < image_words }
 {
     if k < MARK_END {
-        return Put {
-            address: MARK_AT,
-            value: UNFINISHED,
-        };
+        return BEGIN;
     }
     if k < MARK_END + NODE_WORDS * count {
         let i = word(freed, (k - MARK_END) / NODE_WORDS) as usize;
@@ -395,8 +343,5 @@ pub(crate) fn destroy_put<'a>(count: usize, freed: &'a [u32], k: usize) -> Put
             value: 0,
         };
     }
-    Put {
-        address: MARK_AT,
-        value: DONE,
-    }
+    END
 }

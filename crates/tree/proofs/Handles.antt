@@ -1,13 +1,15 @@
 -- Handles: their words in an image, and when two are the same. Assumes nothing.
 use mathlib.Core.Path.{◌≡◌, refl, sym, ap, ◌∙◌}
-use Prim.Native.Nat.{ℕ, ◌+◌, ◌<◌}
+use Prim.Native.Nat.{ℕ, zero, suc, ◌+◌, ◌<◌}
 use native.Mathlib.Omega.{arith}
-use mathlib.Core.Bool.{Bool, true, false}
-use mathlib.Core.List.{List}
+use mathlib.Core.Bool.{Bool, true, false, ◌&&◌}
+use mathlib.Core.List.{List, [], ◌∷◌}
 use lib.Dec.{eqb}
-use lib.ListN.{get_or}
+use lib.ListN.{get_or, length}
+use lib.Pointwise.{pointwise}
 use borrow.Author.Tests.{eq-eqb, eqb-true}
 use Rattle.layout.specs.Sizes.{node_at, handle_at, handle_words}
+use Rattle.layout.specs.Below.{all_below}
 use Rattle.layout.proofs.Bounded.{all_at, all_below_law}
 use Rattle.layout.proofs.Packing.{get_d_part}
 use Rattle.tree.specs.Tree.{same_handle}
@@ -47,3 +49,32 @@ pub same_trans : (a b c : List ℕ) → same_handle a b ≡ true → same_handle
 unfolding same_handle
 same_trans a b c h k =
     all_below_law (λ j. eqb (get_or a j 0) (get_or c j 0)) handle_words (λ j l. eq-eqb (get_or a j 0) (get_or c j 0) (same_word a b h j l ∙ same_word b c k j l))
+
+-- ---- `==` of two handles
+
+-- every number below n + 1: the first, and those after it
+all_front : (p : ℕ → Bool) (n : ℕ) → all_below (suc n) p ≡ (p 0 && all_below n (λ j. p (suc j)))
+unfolding all_below
+all_front p zero = ends (p 0)
+  where
+    ends : (b : Bool) → (true && b) ≡ (b && true)
+    ends true = refl
+    ends false = refl
+all_front p (suc n) = rw (all_front p n) (grouped (p 0) (all_below n (λ j. p (suc j))) (p (suc n)))
+  where
+    grouped : (a b c : Bool) → ((a && b) && c) ≡ (a && (b && c))
+    grouped true b c = refl
+    grouped false b c = refl
+
+words_equal : (a b : List ℕ) → length a ≡ length b → pointwise eqb a b ≡ all_below (length a) (λ j. eqb (get_or a j 0) (get_or b j 0))
+unfolding all_below
+words_equal [] [] e = refl
+words_equal [] (y ∷ b) e = absurd (omega (arith, e))
+words_equal (x ∷ a) [] e = absurd (omega (arith, e))
+words_equal (x ∷ a) (y ∷ b) e =
+    ap (λ (t : Bool). eqb x y && t) (words_equal a b (omega (arith, e)))
+    ∙ sym (all_front (λ j. eqb (get_or (x ∷ a) j 0) (get_or (y ∷ b) j 0)) (length a))
+
+pub same_by_eq : (a b : List ℕ) → length a ≡ handle_words → length b ≡ handle_words → pointwise eqb a b ≡ same_handle a b
+unfolding same_handle
+same_by_eq a b l m = words_equal a b (l ∙ sym m) ∙ ap (λ (n : ℕ). all_below n (λ j. eqb (get_or a j 0) (get_or b j 0))) l

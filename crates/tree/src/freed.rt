@@ -1,32 +1,24 @@
 // Children, and the nodes that a destroy frees.
-ghost use Rattle.std.specs.Prelude.{◌≡◌, not, ◌||◌, ◌++◌, ◌-◌, ◌<◌, eqb, length};
+ghost use Rattle.std.specs.Prelude.{◌≡◌, not, ◌||◌, ◌++◌, ◌-◌, eqb, length};
 ghost use Rattle.layout.specs.Sizes.{node_count, node_words};
 ghost use Rattle.layout.specs.Words.{zeros};
 ghost use Rattle.tree.specs.Tree.{is_child_of, childless, childless_but, goes_too, freed_by};
 ghost use Rattle.tree.specs.Nodes.{tree_in};
 
-use crate::node::{is_retired, is_root, is_used, parent_of};
+use crate::node::Node;
 use layout::{NODE_WORDS, NODES};
 
-fn is_child_of(image: &[u32], p: usize, j: usize) -> bool
-    requires { j < node_count }
-    ensures { result ≡ is_child_of p (tree_in image.now j) }
+fn is_child_of(node: &Node, p: usize) -> bool
+    ensures { result ≡ is_child_of p (tree_in node.now.image.now node.now.index) }
 {
-    if is_used(image, j) {
-        return parent_of(image, j) as usize == p;
-    }
-    false
+    node.is_used() && node.parent() == p
 }
 
-// Whether node j is b or no child of p.
-fn is_other(image: &[u32], b: usize, p: usize, j: usize) -> bool
-    requires { j < node_count }
-    ensures { result ≡ (eqb j b || not (is_child_of p (tree_in image.now j))) }
+// Whether a node is b or no child of p.
+fn is_other(node: &Node, b: usize, p: usize) -> bool
+    ensures { result ≡ (eqb node.now.index b || not (is_child_of p (tree_in node.now.image.now node.now.index))) }
 {
-    if j == b {
-        return true;
-    }
-    !is_child_of(image, p, j)
+    node.index == b || !is_child_of(node, p)
 }
 
 // Whether no node but b is a child of p.
@@ -34,7 +26,8 @@ fn childless_but(image: &[u32], b: usize, p: usize) -> bool
     ensures { result ≡ childless_but node_count (tree_in image.now) b p }
 {
     for j in 0..NODES {
-        if !is_other(image, b, p, j) {
+        let node = Node { image, index: j };
+        if !is_other(&node, b, p) {
             return false;
         }
     }
@@ -55,17 +48,19 @@ fn goes_too(image: &[u32], b: usize, p: usize) -> bool
     if NODES <= p {
         return false;
     }
-    if is_root(image, p) {
+    let parent = Node { image, index: p };
+    if parent.is_root() {
         return false;
     }
-    if !is_retired(image, p) {
+    if !parent.is_retired() {
         return false;
     }
     childless_but(image, b, p)
 }
 
 // The freed nodes' indices, upwards, with zeros behind them, and how many they are. There is room: a node
-// has more words than there are nodes.
+// has more words than there are nodes. An array with its count stays: the project has no heap, and a work
+// stores the whole array.
 #[derive(Clone, Copy)]
 pub struct Freed {
     pub count: usize,
@@ -84,10 +79,10 @@ pub fn freed_by(image: &[u32], i: usize) -> Freed
         return Freed { count, nodes };
     }
     let mut at = i;
-    while count < NODES - 1 {
+    for _ in 1..NODES {
         nodes[count] = at as u32;
         count += 1;
-        let p = parent_of(image, at) as usize;
+        let p = Node { image, index: at }.parent();
         if !goes_too(image, at, p) {
             return Freed { count, nodes };
         }

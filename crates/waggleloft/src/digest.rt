@@ -3,7 +3,7 @@ ghost use Rattle.std.specs.Prelude.{◌≡◌, length};
 ghost use Rattle.message.specs.Checksum.{checksum_of};
 ghost use Rattle.waggleloft.specs.Digest.{digest_number, digest_buffer};
 
-use sha384::digest::{LONGEST, digest};
+use sha384::digest::digest;
 
 // SHA-384 of the message into the first 48 bytes of the buffer: 0. Refused, with nothing written:
 // 10, a message longer than 65,535 bytes; then 8, a buffer shorter than 48.
@@ -13,15 +13,14 @@ pub extern "C" fn waggleloft_sha384(message: &[u8], buffer: &mut [u8]) -> u32
     ensures value { result ≡ digest_number message.now (length buffer.old) }
     ensures buffer_after { buffer.new ≡ digest_buffer message.now buffer.old }
 {
-    if message.len() > LONGEST {
-        return 10;
-    }
+    let bytes = match digest(message) {
+        Ok(bytes) => bytes,
+        Err(error) => return u32::from(error),
+    };
     if buffer.len() < 48 {
         return 8;
     }
-    let d = digest(message);
-    let bytes = d.bytes;
-    copying::copy(&bytes, buffer);
+    buffer[..48].copy_from_slice(&bytes);
     0
 }
 

@@ -4,3 +4,4 @@ pub mod Parts
 pub mod Recorded
 pub mod Numbered
 pub mod Plans
+pub mod Answered

@@ -7,6 +7,10 @@ use native.Mathlib.Omega.{arith}
 use borrow.Author.Tests.{le-ltb}
 use lib.Dec.{eqb}
 use lib.ListN.{length}
+use Rattle.std.proofs.Common.{Result, Ok, Err}
+use Rattle.layout.specs.declared.refusals.Refusal.{Refusal}
+use Rattle.layout.specs.declared.refusals.Refusal.TheVariants.{WrongImage, StoresLeft}
+use Rattle.layout.specs.Numbers.{refusal_number}
 use Rattle.layout.specs.Refusals.{stores_left}
 use Rattle.table.specs.Table.{number_of, index_ok}
 use Rattle.table.specs.declared.Kind.{Kind}
@@ -14,7 +18,6 @@ use Rattle.table.specs.declared.Kind.TheVariants.{Nothing, Disabling, Stash, Upd
 use Rattle.table.proofs.ByKind.{destroy_count, number_destroy}
 use Rattle.journal.specs.Entries.{Entry, entry_bytes}
 use Rattle.journal_bytes.specs.Results.{taken_number, taken_result, taken_buffer}
-use Rattle.journal_bytes.specs.declared.write.Taken.{Taken}
 use Rattle.work.specs.Entries.{well_shaped, finished}
 use Rattle.work.specs.Parts.{standing, recording}
 use Rattle.work.specs.Recorded.{entries_for, entries_of, recorded_bytes, entry_number, entry_result, entry_buffer}
@@ -39,13 +42,18 @@ no_stores (Extend x) node inputs i h = absurd (omega arith)
 no_stores (Rotate x) node inputs i h = absurd (omega arith)
 no_stores (Destroy count) node inputs i h = absurd (destroys count node i h)
 
+-- no refusal has the number of success
+pub some_number : (r : Refusal) → refusal_number r ≡ 0 → ⊥
+some_number WrongImage e = omega arith
+some_number _ e = omega arith
+
 -- ---- one answer for each test
 
-abbrev takes : Taken → List ℕ → Work → List ℕ → Type 0
+abbrev takes : Result ℕ Refusal → List ℕ → Work → List ℕ → Type 0
 takes r after w buffer = (r ≡ entry_result w buffer) × (after ≡ entry_buffer w buffer)
 
 module _ (w : Work) (buffer : List ℕ) where
-  pub entry_early : finished w ≡ false → takes (record { number = stores_left; written = 0 }) buffer w buffer
+  pub entry_early : finished w ≡ false → takes (Err StoresLeft) buffer w buffer
   unfolding entry_result entry_buffer entry_number
   entry_early h = rw h (refl, refl)
 
@@ -59,10 +67,10 @@ module _ (w : Work) (buffer : List ℕ) where
         twice true x y = refl
         twice false x y = refl
 
-    pub entry_none : entries_of w ≡ [] → takes (record { number = 0; written = 0 }) buffer w buffer
+    pub entry_none : entries_of w ≡ [] → takes (Ok 0) buffer w buffer
     unfolding taken_result taken_buffer taken_number
     entry_none e =
-        let none : (taken_result [] buffer ≡ record { number = 0; written = 0 }) × (taken_buffer [] buffer ≡ buffer) = rw (le-ltb (length buffer) 0 (omega arith)) (refl, refl) in
+        let none : (taken_result [] buffer ≡ Ok 0) × (taken_buffer [] buffer ≡ buffer) = rw (le-ltb (length buffer) 0 (omega arith)) (refl, refl) in
         (sym none.0 ∙ rw e at taken.0, sym none.1 ∙ rw e at taken.1)
 
     pub entry_one : (e : Entry) → entries_of w ≡ e ∷ [] → takes (taken_result (entry_bytes e) buffer) (taken_buffer (entry_bytes e) buffer) w buffer

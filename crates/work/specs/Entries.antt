@@ -1,15 +1,15 @@
 -- What the entries over a work answer: stores left, one store, the answer (document 01, "Work, one word at a time" and "Numbers handed back").
 -- Each is defined for every work value and every image. Assumes nothing.
-use Rattle.std.specs.Prelude.{ℕ, ◌+◌, ◌-◌, Bool, cond, not, ◌&&◌, List, length, set, leb, ltb, eqb}
+use Rattle.std.specs.Prelude.{ℕ, ◌+◌, ◌-◌, Bool, cond, not, ◌&&◌, List, length, set, leb, ltb, eqb, Result, Ok, Err}
 use Rattle.std.proofs.Math.Seq.{paste}
 use Rattle.layout.specs.Sizes.{image_words, answer_max}
-use Rattle.layout.specs.Refusals.{wrong_image, stores_left, short_buffer, no_store_left}
+use Rattle.layout.specs.Numbers.{told_number}
+use Rattle.layout.specs.declared.refusals.Refusal.{Refusal}
+use Rattle.layout.specs.declared.refusals.Refusal.TheVariants.{WrongImage, StoresLeft, ShortBuffer, NoStoreLeft}
 use Rattle.table.specs.Table.{Run, runs_for, put_from, number_of, index_ok}
 use Rattle.table.specs.declared.Kind.{Kind}
 use Rattle.table.specs.declared.Put.{Put}
 use Rattle.work.specs.declared.Work.{Work}
-use Rattle.work.specs.declared.Stored.{Stored}
-use Rattle.work.specs.declared.Answered.{Answered}
 
 unfoldable pub runs_of : Work → List Run
 runs_of w = runs_for w.kind w.register w.journey w.node w.secret
@@ -46,9 +46,27 @@ work_from k position register journey node secret answer n inputs =
 abbrev pub moved : Work → Work
 moved w = work_from w.kind (w.position + 1) w.register w.journey w.node w.secret w.answer w.answer_len w.inputs
 
--- "store: 1; 9 no store left"; success is 0
+-- "store: 1; 9 no store left"
+unfoldable pub store_given : Work → List ℕ → Result (Unit {0}) Refusal
+store_given w image = cond (eqb (length image) image_words) (cond (ltb 0 (left_of w)) (Ok tt) (Err NoStoreLeft)) (Err WrongImage)
+
+-- the same as a number; success is 0
 unfoldable pub store_number : Work → List ℕ → ℕ
-store_number w image = cond (eqb (length image) image_words) (cond (ltb 0 (left_of w)) 0 no_store_left) wrong_image
+unfolding store_given
+store_number w image = told_number (store_given w image)
+
+-- "hands it back": the work one store on, or why none is made
+abbrev pub handed : Work → Result (Unit {0}) Refusal → Result Work Refusal
+handed w (Ok u) = Ok w
+handed w (Err r) = Err r
+
+unfoldable pub store_handed : Work → List ℕ → Result Work Refusal
+store_handed w image = handed (moved w) (store_given w image)
+
+-- a store's number, and the work after it
+pub record Stored : Type 0 where
+  pub number : ℕ
+  pub work : Work
 
 -- the number, and the work: one store on, or unchanged
 unfoldable pub store_result : Work → List ℕ → Stored
@@ -62,9 +80,19 @@ store_image w image = cond (eqb (store_number w image) 0) (set image (put_of w).
 unfoldable pub finished : Work → Bool
 finished w = well_shaped w && eqb w.position (number_of w.kind)
 
--- "answer: 7 stores left; 8 buffer shorter than the answer", for a buffer of n bytes; success is 0
+-- "answer: 7 stores left; 8 buffer shorter than the answer", for a buffer of n bytes; else how many bytes are written
+unfoldable pub answer_given : Work → ℕ → Result ℕ Refusal
+answer_given w n = cond (not (finished w)) (Err StoresLeft) (cond (ltb n w.answer_len) (Err ShortBuffer) (Ok w.answer_len))
+
+-- the same as a number; success is 0
 unfoldable pub answer_number : Work → ℕ → ℕ
-answer_number w n = cond (not (finished w)) stores_left (cond (ltb n w.answer_len) short_buffer 0)
+unfolding answer_given
+answer_number w n = told_number (answer_given w n)
+
+-- an answer's number, and how many bytes were written
+pub record Answered : Type 0 where
+  pub number : ℕ
+  pub written : ℕ
 
 unfoldable pub answer_result : Work → List ℕ → Answered
 answer_result w buffer = record { number = answer_number w (length buffer); written = cond (eqb (answer_number w (length buffer)) 0) w.answer_len 0 }

@@ -2,6 +2,7 @@
 use Rattle.std.specs.Prelude.{ℕ, List, []}
 use Rattle.table.specs.declared.Kind.{Kind}
 use Rattle.work.specs.declared.Work.{Work}
+use Rattle.work.specs.declared.lent.Lent.{Lent}
 
 -- kind, position, answer's length and the four fields of prepared words; of the answer and of the inputs no byte
 abbrev pub storing : Kind → ℕ → ℕ → List ℕ → List ℕ → List ℕ → List ℕ → Work
@@ -17,6 +18,10 @@ storing kind position len register journey node secret =
       answer_len = len;
       inputs = [];
     }
+
+-- the work that lent parts are
+abbrev pub lent_work : Lent → Work
+lent_work l = storing l.kind l.position l.answer_len l.words.register.now l.words.journey.now l.words.node.now l.words.secret.now
 
 -- the same with the node's words alone, which hold a destroy's indices: the stores left do not depend on the others
 abbrev pub standing : Kind → ℕ → ℕ → List ℕ → Work

@@ -1,12 +1,13 @@
 -- A work's journal entry, taken as its answer is (document 02, §3). Each is defined for every work value and every buffer. Assumes nothing.
-use Rattle.std.specs.Prelude.{ℕ, cond, not, List, [], ◌∷◌, eqb, length, get_or, take, drop}
+use Rattle.std.specs.Prelude.{ℕ, cond, not, List, [], ◌∷◌, eqb, length, get_or, take, drop, Result, Ok, Err}
 use Rattle.layout.specs.Sizes.{type_at, svn_at, locality_at}
-use Rattle.layout.specs.Refusals.{stores_left}
+use Rattle.layout.specs.declared.refusals.Refusal.{Refusal}
+use Rattle.layout.specs.declared.refusals.Refusal.TheVariants.{StoresLeft}
+use Rattle.layout.specs.Numbers.{refusal_number}
 use Rattle.table.specs.declared.Kind.{Kind}
 use Rattle.table.specs.declared.Kind.TheVariants.{Nothing, Disabling, Stash, Update, ColdBoot, Extension, Derive, Replace, Extend, Rotate, Destroy}
 use Rattle.journal.specs.Entries.{Entry, cold_boot, update, disabling, stash, extension, derive, extend, rotate, destroy, journal_bytes}
-use Rattle.journal_bytes.specs.Results.{handle_part, fresh_part, taken_number, taken_buffer}
-use Rattle.journal_bytes.specs.declared.write.Taken.{Taken}
+use Rattle.journal_bytes.specs.Results.{handle_part, fresh_part, taken_number, taken_result, taken_buffer}
 use Rattle.work.specs.Entries.{finished}
 use Rattle.work.specs.declared.Work.{Work}
 
@@ -58,10 +59,15 @@ recorded_bytes w = journal_bytes (entries_of w)
 
 -- "as its answer is: 7 first, then 23 .. if the buffer is too short", for a buffer of n bytes; success is 0
 unfoldable pub entry_number : Work → ℕ → ℕ
-entry_number w n = cond (not (finished w)) stores_left (taken_number (recorded_bytes w) n)
+entry_number w n = cond (not (finished w)) (refusal_number StoresLeft) (taken_number (recorded_bytes w) n)
 
-unfoldable pub entry_result : Work → List ℕ → Taken
-entry_result w buffer = record { number = entry_number w (length buffer); written = cond (eqb (entry_number w (length buffer)) 0) (length (recorded_bytes w)) 0 }
+unfoldable pub entry_result : Work → List ℕ → Result ℕ Refusal
+entry_result w buffer = cond (not (finished w)) (Err StoresLeft) (taken_result (recorded_bytes w) buffer)
+
+-- a taking's number, and how many bytes it took
+abbrev pub taking_bytes : Result ℕ Refusal → ℕ
+taking_bytes (Ok n) = n
+taking_bytes (Err r) = 0
 
 -- the buffer afterwards: the entry, and bytes past it stay; "writing nothing" where it is refused
 unfoldable pub entry_buffer : Work → List ℕ → List ℕ

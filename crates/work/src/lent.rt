@@ -2,75 +2,76 @@
 // stands, and nothing is copied. Of the prepared words what is left depends on the node's alone, which hold
 // the indices of a destroy. `Work`'s methods and a work that is held in another form use these.
 ghost use Rattle.std.specs.Prelude.{◌≡◌};
-ghost use Rattle.work.specs.Entries.{well_shaped, left_of, finished, store_number, store_image};
-ghost use Rattle.work.specs.Parts.{storing, standing};
+ghost use Rattle.work.specs.Entries.{well_shaped, left_of, finished, store_given, store_image};
+ghost use Rattle.work.specs.Parts.{lent_work};
 
-use layout::refusals::{NO_STORE_LEFT, WRONG_IMAGE};
+use layout::refusals::Refusal;
 use layout::{ANSWER_MAX, IMAGE_WORDS};
-use table::{Kind, index_ok, number, put_at};
+use table::{Kind, Prepared, index_ok, number, put_at};
 
-// Whether a work's indices, answer's length and position are within their bounds.
-fn shaped(kind: Kind, position: usize, answer_len: usize, node: &[u32]) -> bool
-    ensures { result ≡ well_shaped (standing kind position answer_len node.now) }
-{
-    index_ok(kind, node) && (answer_len <= ANSWER_MAX && position <= number(kind))
+// A work's parts, all but the answer's bytes and the inputs.
+#[derive(Clone, Copy)]
+pub struct Lent<'a> {
+    pub kind: Kind,
+    pub position: usize,
+    pub answer_len: usize,
+    pub words: Prepared<'a>,
 }
 
-// Whether the last store is made.
-pub(crate) fn finished(kind: Kind, position: usize, answer_len: usize, node: &[u32]) -> bool
-    ensures { result ≡ finished (standing kind position answer_len node.now) }
-{
-    shaped(kind, position, answer_len, node) && position == number(kind)
-}
-
-// Stores left; 0 of a work that is not well shaped.
-pub fn left(kind: Kind, position: usize, answer_len: usize, node: &[u32]) -> usize
-    ensures { result ≡ left_of (standing kind position answer_len node.now) }
-{
-    if shaped(kind, position, answer_len, node) {
-        return number(kind) - position;
+// In line, so that the struct is never on the stack of a store (bench/stack).
+impl<'a> Lent<'a> {
+    // Whether the indices, the answer's length and the position are within their bounds.
+    #[inline(always)]
+    fn shaped(&self) -> bool
+        ensures { result ≡ well_shaped (lent_work self.now) }
+    {
+        index_ok(self.kind, self.words.node)
+            && (self.answer_len <= ANSWER_MAX && self.position <= number(self.kind))
     }
-    0
-}
 
-// The number of a store. Refused: 1, an image of the wrong size; then 9, no store left.
-fn store_number<'a>(
-    kind: Kind,
-    position: usize,
-    answer_len: usize,
-    node: &'a [u32],
-    image: &'a [u32],
-) -> u32
-    ensures { result ≡ store_number (standing kind position answer_len node.now) image.now }
-{
-    if image.len() != IMAGE_WORDS {
-        return WRONG_IMAGE;
+    // Whether the last store is made.
+    #[inline(always)]
+    pub(crate) fn finished(&self) -> bool
+        ensures { result ≡ finished (lent_work self.now) }
+    {
+        self.shaped() && self.position == number(self.kind)
     }
-    if left(kind, position, answer_len, node) == 0 {
-        return NO_STORE_LEFT;
-    }
-    0
-}
 
-// One store into the image, if its number is 0; otherwise nothing is stored.
-pub fn store<'a>(
-    kind: Kind,
-    position: usize,
-    answer_len: usize,
-    register: &'a [u32],
-    journey: &'a [u32],
-    node: &'a [u32],
-    secret: &'a [u32],
-    image: &mut [u32],
-) -> u32
-    ensures value { result ≡ store_number (storing kind position answer_len register.now journey.now node.now secret.now) image.old }
-    ensures image_after { image.new ≡ store_image (storing kind position answer_len register.now journey.now node.now secret.now) image.old }
-{
-    let number = store_number(kind, position, answer_len, node, image);
-    if number == 0 {
-        let next = put_at(kind, position, register, journey, node, secret);
+    // Stores left; 0 of a work that is not well shaped.
+    #[inline(always)]
+    pub fn left(&self) -> usize
+        ensures { result ≡ left_of (lent_work self.now) }
+    {
+        if self.shaped() {
+            return number(self.kind) - self.position;
+        }
+        0
+    }
+
+    // Refused: an image of the wrong size; then a work with no store left.
+    #[inline(always)]
+    fn may_store(&self, image: &[u32]) -> Result<(), Refusal>
+        ensures { result ≡ store_given (lent_work self.now) image.now }
+    {
+        if image.len() != IMAGE_WORDS {
+            return Err(Refusal::WrongImage);
+        }
+        if self.left() == 0 {
+            return Err(Refusal::NoStoreLeft);
+        }
+        Ok(())
+    }
+
+    // One store into the image; refused, nothing is stored.
+    #[inline(always)]
+    pub fn store(&self, image: &mut [u32]) -> Result<(), Refusal>
+        ensures value { result ≡ store_given (lent_work self.now) image.old }
+        ensures image_after { image.new ≡ store_image (lent_work self.now) image.old }
+    {
+        self.may_store(image)?;
+        let next = put_at(self.kind, self.position, &self.words);
         let at = next.address;
         image[at] = next.value;
+        Ok(())
     }
-    number
 }

@@ -5,14 +5,15 @@
 pub mod entry;
 pub mod lent;
 
-ghost use Rattle.std.specs.Prelude.{◌≡◌, cond, eqb};
-ghost use Rattle.work.specs.Entries.{finished, left_of, store_number, store_result, store_image, answer_result, answer_buffer};
+ghost use Rattle.std.specs.Prelude.{◌≡◌, length};
+ghost use Rattle.work.specs.Entries.{left_of, store_handed, store_image, answer_given, answer_buffer};
+ghost use Rattle.work.specs.Parts.{storing, lent_work};
 ghost use Rattle.work.specs.Recorded.{entry_result, entry_buffer};
 
-use journal_bytes::write::Taken;
-use layout::refusals::{SHORT_BUFFER, STORES_LEFT};
+use crate::lent::Lent;
+use layout::refusals::Refusal;
 use layout::{ANSWER_MAX, INPUT_BYTES, NODE_WORDS, REGISTER_WORDS};
-use table::Kind;
+use table::{Kind, Prepared};
 
 // `register` is PCR31 of a stash and PCR2 of a boot, `journey` PCR3 of a boot, `node` the new node of a stash
 // or a derived child, a boot's root, or the node of an extend or a rotate as it will be; a destroy has its
@@ -32,121 +33,67 @@ pub struct Work {
     pub inputs: [u8; INPUT_BYTES],
 }
 
-// What a store answers: its number, and the work one store on, or as it was where it is refused.
-#[derive(Clone, Copy)]
-pub struct Stored {
-    pub number: u32,
-    pub work: Work,
-}
-
-// What an answer's taking answers: its number, and how many bytes were written.
-#[derive(Clone, Copy)]
-pub struct Answered {
-    pub number: u32,
-    pub written: usize,
-}
-
-// How many stores on a store of that number brings a work.
-fn step(number: u32) -> usize
-    ensures { result ≡ cond (eqb number 0) 1 0 }
-{
-    if number == 0 {
-        return 1;
-    }
-    0
-}
-
 impl Work {
-    // Stores left; 0 of a work that is not well shaped.
-    pub fn left(self) -> usize
-        ensures { result ≡ left_of self }
+    // The parts that a store looks at.
+    fn lent(&self) -> Lent<'_>
+        ensures { lent_work result ≡ storing self.now.kind self.now.position self.now.answer_len self.now.register self.now.journey self.now.node self.now.secret }
     {
-        let kind = self.kind;
-        lent::left(kind, self.position, self.answer_len, &self.node)
-    }
-
-    // The next store into the image; its number. It lends the prepared words alone, so that the answer's
-    // length costs nothing.
-    fn put_next(self, image: &mut [u32]) -> u32
-        ensures value { result ≡ store_number self image.old }
-        ensures image_after { image.new ≡ store_image self image.old }
-    {
-        let kind = self.kind;
-        let register = self.register;
-        let journey = self.journey;
-        let node = self.node;
-        let secret = self.secret;
-        lent::store(
-            kind,
-            self.position,
-            self.answer_len,
-            &register,
-            &journey,
-            &node,
-            &secret,
-            image,
-        )
-    }
-
-    // One store. Refused, with nothing stored: 1, an image of the wrong size; then 9, no store left.
-    pub fn store(self, image: &mut [u32]) -> Stored
-        ensures value { result ≡ store_result self image.old }
-        ensures image_after { image.new ≡ store_image self image.old }
-    {
-        let number = self.put_next(image);
-        let mut moved = self;
-        moved.position = self.position + step(number);
-        Stored {
-            number,
-            work: moved,
+        Lent {
+            kind: self.kind,
+            position: self.position,
+            answer_len: self.answer_len,
+            words: Prepared {
+                register: &self.register,
+                journey: &self.journey,
+                node: &self.node,
+                secret: &self.secret,
+            },
         }
     }
 
-    // Whether the last store is made.
-    fn finished(self) -> bool
-        ensures { result ≡ finished self }
+    // Stores left; 0 of a work that is not well shaped.
+    pub fn left(&self) -> usize
+        ensures { result ≡ left_of self.now }
     {
-        let kind = self.kind;
-        lent::finished(kind, self.position, self.answer_len, &self.node)
+        self.lent().left()
     }
 
-    // The answer into the front of the buffer. Refused, with nothing written: 7, stores left or not
-    // well shaped; then 8, a buffer shorter than the answer.
-    pub fn answer(self, buffer: &mut [u8]) -> Answered
-        ensures value { result ≡ answer_result self buffer.old }
-        ensures buffer_after { buffer.new ≡ answer_buffer self buffer.old }
+    // One store: the work is handed back with its position one store on. Refused, with nothing stored: an image of
+    // the wrong size; then no store left. The caller's work is a copy, and stays.
+    pub fn store(self, image: &mut [u32]) -> Result<Work, Refusal>
+        ensures value { result ≡ store_handed self image.old }
+        ensures image_after { image.new ≡ store_image self image.old }
     {
-        if !self.finished() {
-            return Answered {
-                number: STORES_LEFT,
-                written: 0,
-            };
+        self.lent().store(image)?;
+        Ok(Work {
+            position: self.position + 1,
+            ..self
+        })
+    }
+
+    // The answer into the front of the buffer, and its length. Refused, with nothing written: stores left or not
+    // well shaped; then a buffer shorter than the answer.
+    pub fn answer(&self, buffer: &mut [u8]) -> Result<usize, Refusal>
+        ensures value { result ≡ answer_given self.now (length buffer.old) }
+        ensures buffer_after { buffer.new ≡ answer_buffer self.now buffer.old }
+    {
+        if !self.lent().finished() {
+            return Err(Refusal::StoresLeft);
         }
         let n = self.answer_len;
         if buffer.len() < n {
-            return Answered {
-                number: SHORT_BUFFER,
-                written: 0,
-            };
+            return Err(Refusal::ShortBuffer);
         }
-        let bytes = self.answer;
-        copying::copy(&bytes[..n], buffer);
-        Answered {
-            number: 0,
-            written: n,
-        }
+        buffer[..n].copy_from_slice(&self.answer[..n]);
+        Ok(n)
     }
 
-    // The journal entry into the front of the buffer. Refused, with nothing written: 7, stores left or not
+    // The journal entry into the front of the buffer, and how many bytes it has. Refused, with nothing written: 7, stores left or not
     // well shaped; then 23, a buffer shorter than the entry.
-    pub fn entry(self, buffer: &mut [u8]) -> Taken
-        ensures value { result ≡ entry_result self buffer.old }
-        ensures buffer_after { buffer.new ≡ entry_buffer self buffer.old }
+    pub fn entry(&self, buffer: &mut [u8]) -> Result<usize, Refusal>
+        ensures value { result ≡ entry_result self.now buffer.old }
+        ensures buffer_after { buffer.new ≡ entry_buffer self.now buffer.old }
     {
-        let kind = self.kind;
-        let node = self.node;
-        let inputs = self.inputs;
-        let length = self.answer_len;
-        entry::take(kind, self.position, length, &node, inputs, buffer)
+        entry::take(&self.lent(), self.inputs, buffer)
     }
 }

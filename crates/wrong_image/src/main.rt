@@ -4,7 +4,6 @@
 
 use boot::cold::open_cold_boot;
 use layout::IMAGE_WORDS;
-use opening::BootStatus;
 use std::io::Write;
 use work::Work;
 
@@ -15,17 +14,13 @@ const LONGEST: usize = IMAGE_WORDS + 1;
 // written is lost.
 fn print_store<W: Write>(out: &mut W, work: Work, words: usize) {
     let mut space = [0u32; LONGEST];
-    if words <= LONGEST {
-        let stored = work.store(&mut space[..words]);
-        let _ = writeln!(out, "{}", stored.number);
+    if let Some(image) = space.get_mut(..words) {
+        let number = match work.store(image) {
+            Ok(_) => 0,
+            Err(refusal) => u32::from(refusal),
+        };
+        let _ = writeln!(out, "{number}");
     }
-}
-
-fn print_stores<W: Write>(out: &mut W, work: Work) {
-    print_store(out, work, 0);
-    print_store(out, work, IMAGE_WORDS - 1);
-    print_store(out, work, IMAGE_WORDS);
-    print_store(out, work, LONGEST);
 }
 
 fn main(rt: HostRuntime) {
@@ -34,20 +29,25 @@ fn main(rt: HostRuntime) {
     let manifest = [0x33u8; 48];
     let secret = [0x22u8; 48];
     let booted = open_cold_boot(&image, &runtime, &manifest, &secret);
-    let status = booted.status;
-    let BootStatus::Ready(_) = status else {
+    let Ok(_) = booted.status else {
         let _ = rt
             .stderr()
             .write_all(b"wrong_image: the cold boot is refused\n");
         return;
     };
     let ready = booted.work;
-    let mut finished = ready;
-    finished.position = ready.left();
-    let mut damaged = ready;
-    damaged.position = 0xFFFFFFFFFFFFFFFF;
+    let finished = Work {
+        position: ready.left(),
+        ..ready
+    };
+    let damaged = Work {
+        position: usize::MAX,
+        ..ready
+    };
     let mut out = rt.stdout();
-    print_stores(&mut out, ready);
-    print_stores(&mut out, finished);
-    print_stores(&mut out, damaged);
+    for work in [ready, finished, damaged] {
+        for words in [0, IMAGE_WORDS - 1, IMAGE_WORDS, LONGEST] {
+            print_store(&mut out, work, words);
+        }
+    }
 }

@@ -1,12 +1,10 @@
--- `driver::run` ends: each turn the next operation stands further on in the input, and the memory keeps its length. Assumes nothing.
-use Prim.Native.Nat.{◌≤◌, ◌-◌}
-use mathlib.Core.Path.{◌≡◌}
-use lib.ListN.{length}
+-- Each operation leaves less of the input, and no more is lent than the memory has.
+use Rattle.std.proofs.Common.{length, ◌≤◌}
 use Rattle.driver.specs.Run.{memory_words}
 use Rattle.driver.proofs.run.Given as goal
 
-abbrev pub invariant-loop-at : goal.invariant-loop-at
-invariant-loop-at g l = (length l.memory ≡ memory_words) × (l.words ≤ memory_words)
+abbrev pub invariant-loop-given : goal.invariant-loop-given
+invariant-loop-given g l = l.state.words ≤ memory_words
 
-abbrev pub decreases-loop-at : goal.decreases-loop-at
-decreases-loop-at g l = length l.input - l.at
+abbrev pub decreases-loop-given : goal.decreases-loop-given
+decreases-loop-given g l = length l.input.rest.now

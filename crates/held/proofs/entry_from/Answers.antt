@@ -8,8 +8,6 @@ returns c =
     let l = c.args.work.now in
     let buffer = c.args.buffer.now in
     record {
-      value = c.take.ensures.value
-          ∙ result_parts l c.requires _ _ _ _ c.kind_in.ensures c.position_in.ensures c.answer_len_in.ensures c.inputs_in.ensures buffer;
-      buffer_after = c.take.ensures.buffer_after
-          ∙ buffer_parts l c.requires _ _ _ _ c.kind_in.ensures c.position_in.ensures c.answer_len_in.ensures c.inputs_in.ensures buffer;
+      value = c.take.ensures.value ∙ result_parts l c.lent.result _ c.lent.ensures c.inputs_in.ensures buffer;
+      buffer_after = c.take.ensures.buffer_after ∙ buffer_parts l c.lent.result _ c.lent.ensures c.inputs_in.ensures buffer;
     }

@@ -1,20 +1,21 @@
 -- The bytes that are written lie within the response's array, and are the program's output.
-use Rattle.std.proofs.Common.{rules, sym, subst, take, length-take-le}
+use Rattle.std.proofs.Common.{sym, subst, length-take-le, OnOk}
 use Rattle.std.specs.Io.KnownBytes.{Appends}
 use Rattle.respond.proofs.Output.{response_within}
 use Rattle.mailbox.proofs.Responses.{counting_bytes}
 use Rattle.mailbox.proofs.answer.Goals as goal
 
 pub slice_bounds-bytes-end : goal.slice_bounds-bytes-end
-slice_bounds-bytes-end g c = response_within c.respond-response.result _ c.respond-response.ensures
+slice_bounds-bytes-end g c = response_within c.respond-len.result _ c.respond-len.ensures
 
 pub slice_bounds-write_all-end : goal.slice_bounds-write_all-end
 slice_bounds-write_all-end g c =
-    let r = c.respond-response.result in
-    sym (length-take-le r.len r.bytes (response_within r _ c.respond-response.ensures))
+    let r = c.respond-len.result in
+    sym (length-take-le r.len r.bytes (response_within r _ c.respond-len.ensures))
 
 pub returns : goal.returns
-returns g c = λ done.
-    let r = c.respond-response.result in
-    let more : Appends (g.W.Write.contents c.args.out.now) (g.W.Write.contents c.write_all.new.self) (take r.len r.bytes) = search rules in
-    subst (Appends _ _) (counting_bytes r _ c.respond-response.ensures) more
+returns g c =
+    let r = c.respond-len.result in
+    subst (λ xs. OnOk c.write_all.result (Appends (g.W.Write.contents c.args.out.now) (g.W.Write.contents c.write_all.new.self) xs))
+    (counting_bytes r _ c.respond-len.ensures)
+    c.write_all.ensures.bytes

@@ -4,4 +4,4 @@ use Rattle.nodes.proofs.node_row.Goals as goal
 
 pub returns : goal.returns
 unfolding node_row
-returns c = rw c.handle_words.ensures at c.row_of.ensures
+returns c = rw (c.handle_words.ensures, c.from.ensures) at c.row_of.ensures

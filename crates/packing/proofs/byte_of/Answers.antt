@@ -1,9 +1,7 @@
--- The four digits base 256, each below 256 by its remainder; a word is below 256 ^ 4, so the digits past them are 0.
-use Prim.Native.Nat.{ℕ, ◌/◌, ◌^◌, ◌≤◌, ◌<◌}
+-- A word is below 256 ^ 4, so its digits base 256 past the four are 0.
+use Rattle.std.proofs.Common.{rules, ◌≡◌, ℕ, zero, suc, ◌/◌, ◌^◌, ◌<◌, ◌≤◌, ◌∙◌, refl, get_or, arith}
 use native.Mathlib.Nat.{zero-lt-suc, lt_of_lt_of_le, pow-le-pow_right, div-eq_of_lt}
-use native.Mathlib.Omega.{arith}
-use mathlib.Core.Path.{◌≡◌}
-use Rattle.layout.specs.Words.{byte_of}
+use Rattle.layout.specs.Words.{byte_of, bytes4}
 use Rattle.packing.proofs.byte_of.Goals as goal
 
 past : (w j : ℕ) → w < 256 ^ 4 → 4 ≤ j → 0 ≡ byte_of w j
@@ -11,7 +9,14 @@ past w j s h =
     let z : w / 256 ^ j ≡ 0 = div-eq_of_lt (lt_of_lt_of_le s (pow-le-pow_right (zero-lt-suc 255) h)) in
     rw z
 
-pub returns-in_default : goal.returns-in_default
-returns-in_default c =
-    past c.args.w c.args.j (omega arith)
-    (omega arith)
+digit : (w j : ℕ) → w < 256 ^ 4 → get_or (bytes4 w) j 0 ≡ byte_of w j
+digit w zero s = refl
+digit w (suc zero) s = refl
+digit w (suc (suc zero)) s = refl
+digit w (suc (suc (suc zero))) s = refl
+digit w (suc (suc (suc (suc j)))) s = past w _ s (omega arith)
+
+pub returns : goal.returns
+returns c =
+    let e : c.unwrap_or.result ≡ get_or (bytes4 c.args.w) c.args.j 0 = search rules in
+    e ∙ digit c.args.w c.args.j (omega arith)

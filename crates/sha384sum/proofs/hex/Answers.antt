@@ -7,6 +7,5 @@ pub loop-i-preserved : goal.loop-i-preserved
 loop-i-preserved c =
     let l = c.loop-i in (
       search rules,
-      search rules,
-      hex_more c.args.bytes l.out l.i _ _ (search rules) (search rules) l.invariant.2 c.digit.ensures c.digit-in-loop-i.ensures,
+      hex_more c.args.bytes l.out l.i _ _ (search rules) (search rules) l.invariant.1 c.digit.ensures c.digit-in-loop-i.ensures,
     )

@@ -1,10 +1,7 @@
 -- The first 2 i characters are the digits of the first i bytes.
-use Rattle.std.proofs.Common.{◌≡◌, ◌*◌, ◌-◌, ◌≤◌, length, take}
+use Rattle.std.proofs.Common.{◌≡◌, ◌*◌, length, take}
 use Rattle.sha384sum.specs.Hex.{hex_of}
 use Rattle.sha384sum.proofs.hex.Given as goal
 
 abbrev pub invariant-loop-i : goal.invariant-loop-i
-invariant-loop-i l = (l.i ≤ 48) × (length l.out ≡ 96) × (take (2 * l.i) l.out ≡ hex_of (take l.i l.bytes))
-
-abbrev pub decreases-loop-i : goal.decreases-loop-i
-decreases-loop-i l = 48 - l.i
+invariant-loop-i l = (length l.out ≡ 96) × (take (2 * l.i) l.out ≡ hex_of (take l.i l.byte-items))

@@ -7,6 +7,7 @@ use Rattle.layout.proofs.Cases.{told}
 use Rattle.table.specs.Table.{number_of, store_at}
 use Rattle.table.proofs.ByKind.{store_at_law}
 use Rattle.table.proofs.put_at.Goals as goal
+use Rattle.table.proofs.put_at.Goals.{else-index_ok-via-then-index_ok+else-k-number, else-index_ok-via-else-index_ok}
 
 pub row_put-requires : goal.row_put-requires
 row_put-requires c =
@@ -21,11 +22,9 @@ returns-then-k-number c =
       address_lt_image_words = c.row_put.ensures.address_lt_image_words;
     }
 
-pub returns-else-k-number : goal.returns-else-k-number
+pub returns-clause-value : goal.returns-clause-value
 unfolding store_at
-returns-else-k-number c =
-    let a = c.args in record { value = rw (told c.index_ok.ensures c.if-index_ok.true, le-ltb a.k (number_of a.kind) (omega (arith, c.number.ensures))); address_lt_image_words = omega arith }
-
-pub returns-else-index_ok : goal.returns-else-index_ok
-unfolding store_at
-returns-else-index_ok c = record { value = rw (told c.index_ok.ensures c.if-index_ok.false); address_lt_image_words = omega arith }
+returns-clause-value c = elim c.else-index_ok.branch [
+  | else-index_ok-via-then-index_ok+else-k-number w ↦ rw (told c.index_ok.ensures w.if-index_ok.true, le-ltb c.args.k (number_of c.args.kind) (omega (arith, w.number.ensures)))
+  | else-index_ok-via-else-index_ok w ↦ rw (told c.index_ok.ensures w.if-index_ok.false)
+]

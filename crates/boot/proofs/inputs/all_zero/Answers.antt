@@ -1,27 +1,29 @@
--- A loop over the bytes: `all_more` is a zero byte, `all_fails` another.
+-- Every byte is zero, or one of them is not.
 use native.Mathlib.Omega.{arith}
 use borrow.Author.Rules.{rules}
+use borrow.Author.Tests.{tests, eq-eqb, ne_eqb}
 use mathlib.Core.Path.{◌≡◌, sym}
+use mathlib.Core.Logic.{◌≢◌}
+use mathlib.Core.Bool.{Bool, true, false}
+use mathlib.Core.List.{List}
+use Prim.Native.Nat.{ℕ, ◌<◌}
 use lib.Dec.{eqb}
-use lib.ListN.{get_or}
-use borrow.Author.Tests.{eq-eqb, ne_eqb}
-use Rattle.layout.proofs.Bounded.{all_none, all_more, all_fails}
+use lib.ListN.{length, get_or}
+use Rattle.std.specs.Bool.{MatchBool}
+use Rattle.std.specs.List.{AllWithin, HoldsAt}
+use Rattle.std.proofs.lemmas.Iterator.{cases_from_all, YieldsList-from_slice}
+use Rattle.layout.specs.Below.{all_below}
+use Rattle.layout.proofs.Bounded.{all_below_law, all_fails}
 use Rattle.boot.proofs.inputs.all_zero.Goals as goal
 
-pub loop-k-init : goal.loop-k-init
-loop-k-init c = (search rules, all_none _)
-
-pub returns-then-s-k-ne0 : goal.returns-then-s-k-ne0
-returns-then-s-k-ne0 c =
-    sym (all_fails (λ j. eqb (get_or c.args.s.now j 0) 0) c.loop-k.k 48
-    (ne_eqb _ _ c.if-s-k-ne0.true) (omega arith))
-
-pub loop-k-preserved : goal.loop-k-preserved
-loop-k-preserved c = (
-  omega arith,
-  all_more (λ j. eqb (get_or c.args.s.now j 0) 0) c.loop-k.k
-      c.loop-k.invariant.1 (eq-eqb _ _ c.if-s-k-ne0.false),
-)
+by_cases : (r : Bool) (l : List ℕ) (n : ℕ) → length l ≡ n
+    → MatchBool r (AllWithin (λ b. b ≡ 0) l 0 (length l)) ((k : ℕ) × (k < length l) × HoldsAt (λ b. b ≢ 0) l k)
+    → r ≡ all_below n (λ k. eqb (get_or l k 0) 0)
+by_cases true l n e h = sym (all_below_law (λ k. eqb (get_or l k 0) 0) n (λ k i. eq-eqb (get_or l k 0) 0 (h k 0 (omega arith) (omega (arith, e)))))
+by_cases false l n e h = sym (all_fails (λ k. eqb (get_or l k 0) 0) h.0 n (ne_eqb (get_or l h.0 0) 0 (h.2 0)) (omega (arith, e, h.1)))
 
 pub returns : goal.returns
-returns c = let e : c.loop-k.k ≡ 48 = omega arith in sym (rw e at c.loop-k.invariant.1)
+returns c =
+    by_cases c.all.result c.args.s.now 48 c.requires
+    (cases_from_all _ _ _ (λ b. b ≡ 0) (λ b. b ≢ 0) c.all.ensures.ran (YieldsList-from_slice c.args.s.now cc)
+    (λ x q k. search (rules, tests)) (λ x q k. search (rules, tests)))

@@ -5,4 +5,4 @@ use Rattle.boot.proofs.ready.ready_with.Goals as goal
 
 pub returns : goal.returns
 unfolding work_with zeros
-returns c = rw (c.boot_ready.ensures, c.new_work.ensures, c.no_answer.ensures)
+returns c = rw (c.new_work.ensures, c.no_answer.ensures)

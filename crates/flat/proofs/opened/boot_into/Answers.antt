@@ -8,10 +8,10 @@ returns-then-work-ne-WORK_WORDS c = boots_wrong c.args.work.now c.args.outcome.n
 
 pub returns-in_default : goal.returns-in_default
 returns-in_default c =
-    boots_refused c.args.work.now c.args.outcome.now c.args.booted c.boot_number.result _ (omega arith) c.in_default.is
-    c.boot_number.ensures
+    boots_refused c.args.work.now c.args.outcome.now c.args.booted c.number.result _ (omega arith) c.in_default.is
+    c.number.ensures
 
 pub returns : goal.returns
 returns c =
-    boots_ready c.args.work.now _ c.args.outcome.now c.args.booted _ _ (omega arith) c.in-Ready.is
-    c.write_work.ensures.out_after c.write_work.ensures.out_after_2 c.outcome_number.ensures
+    boots_ready c.args.work.now _ c.args.outcome.now c.args.booted _ _ (omega arith) c.in-Ok.is
+    c.write_work.ensures.out_after c.write_work.ensures.out_after_2 c.from.ensures

@@ -8,9 +8,9 @@ returns-then-work-ne-WORK_WORDS c = opens_wrong c.args.work.now c.args.opened c.
 
 pub returns-in_default : goal.returns-in_default
 returns-in_default c =
-    opens_refused c.args.work.now c.args.opened c.number_of.result _ (omega arith) c.in_default.is c.number_of.ensures
+    opens_refused c.args.work.now c.args.opened c.number.result _ (omega arith) c.in_default.is c.number.ensures
 
 pub returns : goal.returns
 returns c =
-    opens_ready c.args.work.now _ c.args.opened (omega arith) c.in-Ready.is c.write_work.ensures.out_after
+    opens_ready c.args.work.now _ c.args.opened (omega arith) c.in-Ok.is c.write_work.ensures.out_after
     c.write_work.ensures.out_after_2

@@ -4,4 +4,4 @@ use Rattle.flat.proofs.words.head_of.Goals as goal
 
 pub returns : goal.returns
 unfolding head_of
-returns c = rw (← c.encode-coded.ensures) c.head.ensures
+returns c = rw (← c.from-coded.ensures) c.head.ensures

@@ -7,6 +7,6 @@ pub returns-then-fresh-ne-HANDLE_BYTES : goal.returns-then-fresh-ne-HANDLE_BYTES
 unfolding unfit
 returns-then-fresh-ne-HANDLE_BYTES c = rw (ne_eqb _ _ c.if-fresh-ne-HANDLE_BYTES.true)
 
-pub returns : goal.returns
+pub returns-else-fresh-ne-HANDLE_BYTES : goal.returns-else-fresh-ne-HANDLE_BYTES
 unfolding unfit
-returns c = rw (eq-eqb _ _ c.if-fresh-ne-HANDLE_BYTES.false) (rw c.fresh_words.ensures at c.taken.ensures)
+returns-else-fresh-ne-HANDLE_BYTES c = rw (eq-eqb _ _ c.if-fresh-ne-HANDLE_BYTES.false) (rw c.fresh_words.ensures at c.taken.ensures)

@@ -4,4 +4,4 @@ use Rattle.held.proofs.reading.kind_in.Goals as goal
 
 pub returns : goal.returns
 unfolding work_of
-returns c = rw (c.decode.ensures, c.long_in-2.ensures, c.long_in.ensures, c.word.ensures)
+returns c = rw (c.from.ensures, c.long_in-2.ensures, c.long_in.ensures, c.word.ensures)

@@ -1,5 +1,5 @@
 -- `unpack` meets its contract. The invariant: the first k bytes are those of the words. Assumes nothing.
-use Prim.Native.Nat.{◌+◌, ◌-◌, ◌/◌, ◌%◌, ◌≤◌}
+use Prim.Native.Nat.{◌+◌, ◌/◌, ◌%◌, ◌≤◌}
 use mathlib.Core.Path.{◌≡◌}
 use lib.ListN.{length, take, get_or}
 use Rattle.layout.specs.Words.{tab, byte_of}
@@ -8,6 +8,3 @@ use Rattle.held.proofs.reading.unpack.Given as goal
 abbrev pub invariant-loop-k : goal.invariant-loop-k
 invariant-loop-k l =
     (l.k ≤ length l.initial.out) × (length l.out ≡ length l.initial.out) × (take l.k l.out ≡ tab l.k (λ j. byte_of (get_or l.words (l.at + j / 4) 0) (j % 4)))
-
-abbrev pub decreases-loop-k : goal.decreases-loop-k
-decreases-loop-k l = length l.initial.out - l.k

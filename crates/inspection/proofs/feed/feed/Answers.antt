@@ -9,9 +9,9 @@ use Rattle.inspection.proofs.feed.feed.Goals as goal
 pub returns : goal.returns
 unfolding fed_with
 returns c =
-    let l = c.loop-i in
+    let l = c.loop-b in
     let x = stage_of c.args.reader c.args.saved.now c.args.scratch.now in
-    let all = l.invariant.1 ∙ ap (foldl one_byte x) (take_all l.i c.args.piece.now (omega arith)) in
+    let all = l.invariant ∙ ap (foldl one_byte x) (take_all l.b-index c.args.piece.now (omega arith)) in
     record {
       value = ap (λ (y : Stage). y.reader) all;
       saved_after = ap (λ (y : Stage). y.saved) all;

@@ -9,14 +9,14 @@ use Rattle.inspection.proofs.feed.push.Goals as goal
 pub returns-then-seen-ge-IMAGE_BYTES : goal.returns-then-seen-ge-IMAGE_BYTES
 unfolding one_byte
 returns-then-seen-ge-IMAGE_BYTES c =
-    rw (le-ltb c.args.reader.seen image_bytes c.if-seen-ge-IMAGE_BYTES.true) (c.push_journal.ensures c.args.saved.now)
+    rw (le-ltb c.args.reader.now.seen image_bytes c.if-seen-ge-IMAGE_BYTES.true) (c.push_journal.ensures c.args.saved.now)
 
 pub returns-then-seen-saved : goal.returns-then-seen-saved
 unfolding one_byte
-returns-then-seen-saved c = rw (lt-ltb c.args.reader.seen image_bytes c.if-seen-ge-IMAGE_BYTES.false)
+returns-then-seen-saved c = rw (lt-ltb c.args.reader.now.seen image_bytes c.if-seen-ge-IMAGE_BYTES.false)
 
 pub returns-else-seen-saved : goal.returns-else-seen-saved
 unfolding one_byte
 returns-else-seen-saved c =
     rw
-    (lt-ltb c.args.reader.seen image_bytes c.if-seen-ge-IMAGE_BYTES.false, set_out c.args.saved.now c.args.reader.seen c.args.b (omega arith))
+    (lt-ltb c.args.reader.now.seen image_bytes c.if-seen-ge-IMAGE_BYTES.false, set_out c.args.saved.now c.args.reader.now.seen c.args.b (omega arith))

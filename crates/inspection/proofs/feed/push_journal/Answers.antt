@@ -1,58 +1,65 @@
 -- The tests in the order of the definition, and what reading the entry's bytes so far tells.
-use Prim.Native.Nat.{◌+◌, ◌≤◌, ◌<◌}
-use mathlib.Core.Path.{sym, ap, ◌∙◌}
+use Prim.Native.Nat.{ℕ, ◌+◌, ◌≤◌, ◌<◌}
+use mathlib.Core.Path.{◌≡◌, refl, sym, ap, ◌∙◌}
+use mathlib.Core.Bool.{true, false}
 use native.Mathlib.Omega.{arith}
-use borrow.Author.Tests.{le-leb, lt-leb, eq-eqb, ne_eqb}
+use borrow.Author.Tests.{le-leb, lt-leb}
+use Rattle.std.specs.Option.{is_some}
+use Rattle.layout.specs.Refusals.{cut_entry}
 use Rattle.journal.specs.Entries.{longest}
 use Rattle.replaying.specs.Report.{journal_max}
 use Rattle.inspection.specs.declared.reader.Reader.{Reader}
-use Rattle.inspection.specs.Stages.{stage_of, so_far, journal_byte}
+use Rattle.inspection.specs.Stages.{Stage, stage_of, refused_with, so_far, journal_byte}
 use Rattle.inspection.proofs.Reading.{read_waits, read_refuses, read_counts, reads_on}
 use Rattle.inspection.proofs.feed.push_journal.Goals as goal
 
-pub returns-then-reader-ne0 : goal.returns-then-reader-ne0
-unfolding journal_byte
-returns-then-reader-ne0 c = λ saved. rw (ne_eqb _ 0 c.if-reader-ne0.true)
+module _ (x : Stage) (b : ℕ) where
+  already : is_some x.reader.refusal ≡ true → x ≡ journal_byte x b
+  unfolding journal_byte
+  already n = rw n refl
+
+  too_long : is_some x.reader.refusal ≡ false → longest ≤ x.reader.held → refused_with x cut_entry ≡ journal_byte x b
+  unfolding journal_byte
+  too_long n h = rw (n, le-leb longest x.reader.held h) refl
+
+  past : is_some x.reader.refusal ≡ false → x.reader.held < longest → journal_max ≤ x.reader.offset + x.reader.held → x ≡ journal_byte x b
+  unfolding journal_byte
+  past n h o = rw (n, lt-leb longest x.reader.held h, le-leb journal_max (x.reader.offset + x.reader.held) o) refl
+
+pub returns-then-is_some : goal.returns-then-is_some
+returns-then-is_some c = λ saved. already (stage_of c.args.reader.now saved c.args.scratch.now) c.args.b (sym c.is_some.ensures ∙ c.if-is_some.true)
 
 pub returns-then-held-ge-LONGEST : goal.returns-then-held-ge-LONGEST
-unfolding journal_byte
 returns-then-held-ge-LONGEST c = λ saved.
-    let r = c.args.reader in
-    rw (eq-eqb r.number 0 c.if-reader-ne0.false, le-leb longest r.held c.if-held-ge-LONGEST.true)
-    (ap (λ (q : Reader). stage_of q saved c.args.scratch.now) c.refused.ensures)
+    too_long (stage_of c.args.reader.now saved c.args.scratch.now) c.args.b (sym c.is_some.ensures ∙ c.if-is_some.false) c.if-held-ge-LONGEST.true
 
 pub returns-then-held-reader : goal.returns-then-held-reader
-unfolding journal_byte
 returns-then-held-reader c = λ saved.
-    let r = c.args.reader in
-    let past : journal_max ≤ r.offset + r.held = omega arith in
-    rw (eq-eqb r.number 0 c.if-reader-ne0.false, lt-leb longest r.held c.if-held-ge-LONGEST.false, le-leb journal_max (r.offset + r.held) past)
+    let r = c.args.reader.now in
+    let over : journal_max ≤ r.offset + r.held = omega arith in
+    past (stage_of r saved c.args.scratch.now) c.args.b (sym c.is_some.ensures ∙ c.if-is_some.false) c.if-held-ge-LONGEST.false over
 
-pub returns-then-waits : goal.returns-then-waits
-returns-then-waits c = λ saved.
-    let r = c.args.reader in
-    let b = c.args.b in
+pub returns-in-Ok : goal.returns-in-Ok
+returns-in-Ok c = λ saved.
+    let r = c.args.reader.now in
     let x = stage_of r saved c.args.scratch.now in
     let within : r.offset + r.held < journal_max = omega arith in
-    sym (reads_on x b c.if-reader-ne0.false c.if-held-ge-LONGEST.false within
-    ∙ read_waits x b (so_far r b) _ c.read_entry-read.ensures c.if-waits.true)
+    c.whole.ensures saved
+    ∙ sym (reads_on x c.args.b (sym c.is_some.ensures ∙ c.if-is_some.false) c.if-held-ge-LONGEST.false within
+    ∙ read_counts x c.args.b (so_far r c.args.b) c.in-Ok.entry c.in-Ok.field-0-1 c.in-Ok.ensures)
 
-pub returns-then-read-ne0 : goal.returns-then-read-ne0
-returns-then-read-ne0 c = λ saved.
-    let r = c.args.reader in
-    let b = c.args.b in
+pub returns-in-CutEntry : goal.returns-in-CutEntry
+returns-in-CutEntry c = λ saved.
+    let r = c.args.reader.now in
     let x = stage_of r saved c.args.scratch.now in
     let within : r.offset + r.held < journal_max = omega arith in
-    ap (λ (q : Reader). stage_of q saved c.args.scratch.now) c.refused-then-read-ne0.ensures
-    ∙ sym (reads_on x b c.if-reader-ne0.false c.if-held-ge-LONGEST.false within
-    ∙ read_refuses x b (so_far r b) _ c.read_entry-read.ensures c.if-waits.false c.if-read-ne0.true)
+    sym (reads_on x c.args.b (sym c.is_some.ensures ∙ c.if-is_some.false) c.if-held-ge-LONGEST.false within
+    ∙ read_waits x c.args.b (so_far r c.args.b) (rw c.in-CutEntry.is at c.in-Err.ensures))
 
-pub returns : goal.returns
-returns c = λ saved.
-    let r = c.args.reader in
-    let b = c.args.b in
+pub returns-in_default : goal.returns-in_default
+returns-in_default c = λ saved.
+    let r = c.args.reader.now in
     let x = stage_of r saved c.args.scratch.now in
     let within : r.offset + r.held < journal_max = omega arith in
-    rw
-    (reads_on x b c.if-reader-ne0.false c.if-held-ge-LONGEST.false within, read_counts x b (so_far r b) _ c.read_entry-read.ensures c.if-read-ne0.false)
-    (c.whole.ensures saved)
+    sym (reads_on x c.args.b (sym c.is_some.ensures ∙ c.if-is_some.false) c.if-held-ge-LONGEST.false within
+    ∙ read_refuses x c.args.b (so_far r c.args.b) c.in-Err.refusal c.in_default.not-CutEntry c.in-Err.ensures)

@@ -1,5 +1,5 @@
 -- The front is copied to the start of the array, the back behind it.
-use Prim.Native.Nat.{ℕ, ◌+◌, ◌≤◌}
+use Prim.Native.Nat.{ℕ, ◌+◌, ◌-◌, ◌≤◌}
 use mathlib.Core.Path.{◌≡◌, ap₂}
 use mathlib.Core.List.{List, ◌++◌}
 use native.Mathlib.Omega.{arith}
@@ -18,5 +18,5 @@ returns c =
     let long : length c.args.front ≡ 12 = search rules in
     let room : 12 + length c.args.back.now ≤ told_max = omega arith in
     let l : 12 + length b ≡ length (a ++ b) = omega (arith, length-append a b) in
-    ap₂ (λ (x : List ℕ) (n : ℕ). record { bytes = x; len = n })
-    (both told_max 12 a b c.copy.new.to c.copy-2.new.to long room c.copy.ensures.after c.copy-2.ensures.after) l
+    rw (c.copy_from_slice.ensures.after, c.copy_from_slice-2.ensures.after)
+    (ap₂ (λ (x : List ℕ) (n : ℕ). record { bytes = x; len = n }) (both told_max 12 a b long room (12 + length b - 12) (omega arith)) l)

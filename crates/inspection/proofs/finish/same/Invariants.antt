@@ -16,6 +16,3 @@ same_at saved scratch k = eqb (le32 saved (4 * (compared_at + k))) (get_or scrat
 
 abbrev pub invariant-loop-k : goal.invariant-loop-k
 invariant-loop-k l = (l.k ≤ image_words - compared_at) × (all_below l.k (same_at l.saved l.scratch) ≡ true)
-
-abbrev pub decreases-loop-k : goal.decreases-loop-k
-decreases-loop-k l = image_words - compared_at - l.k

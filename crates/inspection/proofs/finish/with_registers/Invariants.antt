@@ -13,6 +13,3 @@ byte_at scratch k = byte_of (get_or (part told_words scratch compared_at) (k / 4
 
 abbrev pub invariant-loop-k : goal.invariant-loop-k
 invariant-loop-k l = (l.k ≤ 4 * told_words) × (length l.out ≡ 1 + 4 * told_words) × (take (1 + l.k) l.out ≡ l.verdict ∷ tab l.k (byte_at l.scratch))
-
-abbrev pub decreases-loop-k : goal.decreases-loop-k
-decreases-loop-k l = 4 * told_words - l.k

@@ -1,23 +1,49 @@
 -- The kind, and what is read behind it.
 use native.Mathlib.Omega.{arith}
-use mathlib.Core.Path.{refl, ◌∙◌}
-use mathlib.Core.Logic.{inl, inr}
-use Rattle.journal_bytes.proofs.Entries.{disabling_got, entry_cut, entry_unlisted}
+use mathlib.Core.Path.{◌≡◌, refl, sym, ap, ◌∙◌}
+use mathlib.Core.List.{List, [], ◌∷◌}
+use Prim.Native.Nat.{ℕ, suc, ◌-◌, ◌≤◌, ◌<◌}
+use borrow.Author.Rules.{rules}
+use lib.ListN.{length, get_or, drop, take}
+use lib.Seq.{take_all}
+use Rattle.std.proofs.Common.{Err}
+use Rattle.layout.specs.declared.refusals.Refusal.TheVariants.{CutEntry}
+use Rattle.journal.specs.Entries.{read_entry}
+use Rattle.journal_bytes.specs.Results.{entry_read}
+use Rattle.journal_bytes.proofs.Entries.{entry_unlisted, entry_refused, entry_got, parts_fit}
 use Rattle.journal_bytes.proofs.read.read_entry.Goals as goal
 
-pub returns-then-s-eq0 : goal.returns-then-s-eq0
-returns-then-s-eq0 c = c.refused.ensures ∙ entry_cut c.args.s.now c.if-s-eq0.true
+-- the first byte, and the others
+split : (s : List ℕ) → 1 ≤ length s → s ≡ get_or s 0 0 ∷ take (length s - 1) (drop 1 s)
+split [] h = absurd (omega arith)
+split (b ∷ s) h = ap (λ (l : List ℕ). b ∷ l) (sym (take_all (suc (length s) - 1) s (omega arith)))
 
-pub read_boot-requires : goal.read_boot-requires
-read_boot-requires c = record { s_nonzero = omega arith; boot_kind = inl (c.in-1.is, refl) }
-
-pub read_boot-requires-in-2 : goal.read_boot-requires-in-2
-read_boot-requires-in-2 c = record { s_nonzero = omega arith; boot_kind = inr (c.in-2.is, refl) }
-
-pub returns-in-3 : goal.returns-in-3
-returns-in-3 c = rw c.no_fields-entry.ensures (disabling_got c.args.s.now (omega arith) c.in-3.is)
+none : (s : List ℕ) → length s < 1 → Err CutEntry ≡ entry_read s
+unfolding entry_read read_entry
+none [] h = refl
+none (b ∷ s) h = absurd (omega arith)
 
 pub returns-in_default : goal.returns-in_default
-returns-in_default c =
-    c.refused-in_default.ensures
-    ∙ entry_unlisted c.args.s.now (omega arith) (λ k. omega arith) (λ k. omega arith) (λ k. omega arith) (λ k. omega arith) (λ k. omega arith) (λ k. omega arith) (λ k. omega arith) (λ k. omega arith) (λ k. omega arith)
+returns-in_default c = none c.args.s.now c.in_default.len_below
+
+pub returns-in_err-try_from : goal.returns-in_err-try_from
+returns-in_err-try_from c =
+    let q : c.from_residual.result ≡ Err c.in_err-try_from.field-0.0 = search rules in
+    q ∙ entry_unlisted _ _ c.in_err-try_from.field-0.0 c.in_err-try_from.ensures ∙ ap entry_read (sym (split c.args.s.now c.in-len1-up.len_at_least))
+
+pub returns-in_err-entry : goal.returns-in_err-entry
+returns-in_err-entry c =
+    let q : c.from_residual-in_err-entry.result ≡ Err c.in_err-entry.field-0.0 = search rules in
+    q
+    ∙ entry_refused _ _ c.in_ok-try_from.field-0 c.in_err-entry.field-0.0 c.in_ok-try_from.ensures c.in_err-entry.ensures
+    ∙ ap entry_read (sym (split c.args.s.now c.in-len1-up.len_at_least))
+
+pub overflow_sub-result : goal.overflow_sub-result
+overflow_sub-result c =
+    omega (arith, parts_fit _ _ _ c.in_ok-entry.rest.now c.in_ok-entry.ensures, ap length (split c.args.s.now c.in-len1-up.len_at_least))
+
+pub returns : goal.returns
+returns c =
+    entry_got _ _ c.in_ok-try_from.field-0 c.in_ok-entry.entry c.in_ok-entry.rest.now _ c.in_ok-try_from.ensures c.in_ok-entry.ensures
+    (omega (arith, ap length (split c.args.s.now c.in-len1-up.len_at_least)))
+    ∙ ap entry_read (sym (split c.args.s.now c.in-len1-up.len_at_least))

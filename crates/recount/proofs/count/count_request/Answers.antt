@@ -16,8 +16,8 @@ unfolding request_made
 returns-then-left-eq0 c =
     let o = c.open_request-opened.ensures.value in
     record {
-      value = rw (← o, c.in-Ready.is, ← c.left.ensures, c.if-left-eq0.true) refl;
-      image_after = rw (← o, c.in-Ready.is, ← c.left.ensures, c.if-left-eq0.true) refl;
+      value = rw (← o, c.in-Ok.is, ← c.left.ensures, c.if-left-eq0.true) refl;
+      image_after = rw (← o, c.in-Ok.is, ← c.left.ensures, c.if-left-eq0.true) refl;
     }
 
 pub returns : goal.returns
@@ -26,6 +26,6 @@ returns c =
     let o = c.open_request-opened.ensures.value in
     let some = lt-ltb 0 c.left.result (omega arith) in
     record {
-      value = rw (← o, c.in-Ready.is, ← c.left.ensures, some) refl;
-      image_after = rw (← o, c.in-Ready.is, ← c.left.ensures, some) c.run_all.ensures.image_after;
+      value = rw (← o, c.in-Ok.is, ← c.left.ensures, some) refl;
+      image_after = rw (← o, c.in-Ok.is, ← c.left.ensures, some) c.run_all.ensures.image_after;
     }

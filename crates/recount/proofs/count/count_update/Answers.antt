@@ -14,11 +14,11 @@ unfolding update_made
 returns-then-not-is_update c =
     let o = c.open_update_boot-booted.ensures.value in
     let not = sym c.is_update.ensures ∙ c.if-not-is_update.true in
-    record { value = rw (← o, c.in-Ready.is, not) refl; image_after = rw (← o, c.in-Ready.is, not) refl }
+    record { value = rw (← o, c.in-Ok.is, not) refl; image_after = rw (← o, c.in-Ok.is, not) refl }
 
 pub returns : goal.returns
 unfolding update_made
 returns c =
     let o = c.open_update_boot-booted.ensures.value in
     let yes = sym c.is_update.ensures ∙ c.if-not-is_update.false in
-    record { value = rw (← o, c.in-Ready.is, yes) refl; image_after = rw (← o, c.in-Ready.is, yes) c.run_all.ensures.image_after }
+    record { value = rw (← o, c.in-Ok.is, yes) refl; image_after = rw (← o, c.in-Ok.is, yes) c.run_all.ensures.image_after }

@@ -2,4 +2,4 @@
 use Rattle.request.proofs.answer.declined.Goals as goal
 
 pub returns : goal.returns
-returns c = rw (← c.four-dpe.ensures) c.ready_plain.ensures
+returns c = rw (← c.four.ensures) c.ready_plain.ensures

@@ -2,6 +2,4 @@
 use Rattle.request.proofs.answer.put_checksum.Goals as goal
 
 pub returns : goal.returns
-returns c =
-    let d = c in
-    rw (d.copy.ensures.after, d.four-sum.ensures, d.checksum.ensures)
+returns c = rw (c.copy_from_slice.ensures.after, c.four-sum.ensures, c.checksum.ensures)

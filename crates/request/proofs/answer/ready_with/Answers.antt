@@ -4,4 +4,4 @@ use Rattle.request.proofs.answer.ready_with.Goals as goal
 
 pub returns : goal.returns
 unfolding work_with
-returns c = rw (c.ready.ensures, c.new_work.ensures, c.sealed.ensures)
+returns c = rw (c.new_work.ensures, c.sealed.ensures)

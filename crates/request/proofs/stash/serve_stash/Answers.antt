@@ -1,4 +1,6 @@
 -- Each exit is one line of the stash's rules: off, not well formed, no holder, no free node, none.
+use mathlib.Core.Path.{ap}
+use Rattle.std.specs.Prelude.{Ok}
 use native.Mathlib.Omega.{arith}
 use lib.ListN.{get_or}
 use borrow.Author.Tests.{eq-eqb, ne_eqb, le-leb, lt-leb}
@@ -13,7 +15,7 @@ use Rattle.request.proofs.stash.serve_stash.Goals as goal
 
 pub returns-then-image-ne1 : goal.returns-then-image-ne1
 unfolding screened_opened view_in work_at
-returns-then-image-ne1 c = rw (ne_eqb (get_or c.args.image.now attestation_at 0) 1 c.if-image-ne1.true) c.declined.ensures
+returns-then-image-ne1 c = rw (ne_eqb (get_or c.args.image.now attestation_at 0) 1 c.if-image-ne1.true) (ap Ok (rw c.from.ensures at c.declined.ensures))
 
 pub returns-then-not-well_formed : goal.returns-then-not-well_formed
 unfolding screened_opened view_in work_at
@@ -21,7 +23,7 @@ returns-then-not-well_formed c =
     rw (
       eq-eqb (get_or c.args.image.now attestation_at 0) 1 c.if-image-ne1.false,
       told c.well_formed-2.ensures c.if-not-well_formed.true,
-    ) c.refused.ensures
+    )
 
 -- on, and well formed
 pub returns-then-holder-ge-NODES : goal.returns-then-holder-ge-NODES
@@ -32,7 +34,7 @@ returns-then-holder-ge-NODES c =
       eq-eqb (get_or a.image.now attestation_at 0) 1 c.if-image-ne1.false,
       told c.well_formed-2.ensures c.if-not-well_formed.false,
       le-leb node_count (node_with node_count (tree_in a.image.now) default_words) (omega (arith, c.holder_index-holder.ensures.value)),
-    ) c.declined-then-holder-ge-NODES.ensures
+    ) (ap Ok (rw c.from-then-holder-ge-NODES.ensures at c.declined-then-holder-ge-NODES.ensures))
 
 pub returns-then-node-ge-NODES : goal.returns-then-node-ge-NODES
 unfolding screened_opened view_in work_at
@@ -43,7 +45,7 @@ returns-then-node-ge-NODES c =
       told c.well_formed-2.ensures c.if-not-well_formed.false,
       lt-leb node_count (node_with node_count (tree_in a.image.now) default_words) (omega (arith, c.holder_index-holder.ensures.value)),
       le-leb node_count (lowest_free node_count (tree_in a.image.now)) (omega (arith, c.free_index-node.ensures.value)),
-    ) c.declined-then-node-ge-NODES.ensures
+    ) (ap Ok (rw c.from-then-node-ge-NODES.ensures at c.declined-then-node-ge-NODES.ensures))
 
 pub returns : goal.returns
 unfolding screened_opened view_in
@@ -54,4 +56,4 @@ returns c =
       told c.well_formed-2.ensures c.if-not-well_formed.false,
       lt-leb node_count (node_with node_count (tree_in a.image.now) default_words) (omega (arith, c.holder_index-holder.ensures.value)),
       lt-leb node_count (lowest_free node_count (tree_in a.image.now)) (omega (arith, c.free_index-node.ensures.value)),
-    ) c.accepted.ensures
+    ) (ap Ok c.accepted.ensures)

@@ -5,10 +5,10 @@ use borrow.Author.Tests.{le-leb, lt-leb}
 use Rattle.sha384.specs.Entries.{longest, digest_of}
 use Rattle.sha384.proofs.digest.digest.Goals as goal
 
-pub returns-then-message-le-LONGEST : goal.returns-then-message-le-LONGEST
+pub returns-then-message-gt-LONGEST : goal.returns-then-message-gt-LONGEST
 unfolding digest_of
-returns-then-message-le-LONGEST c = rw (le-leb (length c.args.message.now) longest (omega arith), c.hash-bytes.ensures)
+returns-then-message-gt-LONGEST c = rw (lt-leb (length c.args.message.now) longest (omega arith))
 
-pub returns-else-message-le-LONGEST : goal.returns-else-message-le-LONGEST
+pub returns : goal.returns
 unfolding digest_of
-returns-else-message-le-LONGEST c = rw (lt-leb (length c.args.message.now) longest (omega arith))
+returns c = rw (le-leb (length c.args.message.now) longest (omega arith), c.hash.ensures)

@@ -13,7 +13,7 @@ returns-then-n-lt112 c =
     let last = c.args.last.now in
     let vs = bytes_of 8 (c.args.total * 8) in
     let short : length last < 128 = omega (arith, c.requires.0) in
-    let mark = marks last _ short c.copy.ensures.after in
+    let mark = marks last _ short c.copy_from_slice.ensures.after in
     let stored = c.put_word.ensures ∙ ap (λ (b : List ℕ). sets b 120 vs) mark in
     let all = stored ∙ one_block last c.args.total c.requires.0 c.requires.1 c.if-n-lt112.true in
     c.absorb.ensures
@@ -25,7 +25,7 @@ returns-else-n-lt112 c =
     let last = c.args.last.now in
     let vs = bytes_of 8 (c.args.total * 8) in
     let short : length last < 128 = omega (arith, c.requires.0) in
-    let mark = marks last _ short c.copy.ensures.after in
+    let mark = marks last _ short c.copy_from_slice.ensures.after in
     let all = two_blocks last c.args.total c.requires.0 c.requires.1 c.if-n-lt112.false in
     two_runs c.args.k.now c.args.h.now (last ++ padding c.args.total) (marked last) (sets (replicate 128 0) 120 vs) mark
     c.put_word-else-n-lt112.ensures c.absorb-else-n-lt112.ensures c.absorb-else-n-lt112-2.ensures all (length_marked last short)

@@ -1,22 +1,9 @@
--- The invariant: the first k words are the numbers in the bytes so far.
-use native.Mathlib.Omega.{arith}
-use borrow.Author.Rules.{rules}
-use mathlib.Core.Path.{◌≡◌}
-use lib.ListN.{length-set}
-use Rattle.layout.specs.Sizes.{register_words}
+-- Each element is its call's.
+use Rattle.std.proofs.Common.{rules}
 use Rattle.layout.specs.Words.{words_at}
-use Rattle.layout.proofs.Tab.{tab_none, tab_more, tab_full}
+use Rattle.layout.proofs.Tab.{from_fn_tab}
 use Rattle.slices.proofs.little_endian.pack.Goals as goal
-
-pub loop-k-init : goal.loop-k-init
-loop-k-init c = (search rules, search rules, tab_none _)
-
-pub loop-k-preserved : goal.loop-k-preserved
-loop-k-preserved c = let l = c.loop-k in
-    (omega arith, simp length-set l.invariant.1, tab_more _ l.out l.k c.word_of.result (omega arith) c.word_of.ensures l.invariant.2)
 
 pub returns : goal.returns
 unfolding words_at
-returns c = let l = c.loop-k in
-    let e : l.k ≡ register_words = omega arith in
-    tab_full _ l.out register_words l.invariant.1 (rw e at l.invariant.2)
+returns c = from_fn_tab _ _ _ _ _ (λ i y q l h. search rules) c.from_fn.ensures.items

@@ -1,8 +1,7 @@
--- Two bytes and their weights; no sum leaves its type.
-use Rattle.layout.proofs.Packing.{le16_read}
+-- The bytes and their weights.
+use Rattle.std.proofs.Common.{rules}
+use Rattle.slices.proofs.Numbers.{le16_is}
 use Rattle.slices.proofs.little_endian.read16.Goals as goal
 
 pub returns : goal.returns
-returns c =
-    le16_read c.args.s.now c.args.at _ _ c.byte_after.ensures.value
-    c.byte_after-2.ensures.value
+returns c = le16_is c.args.s.now c.args.at _ (search rules)

@@ -1,9 +1,7 @@
--- Four bytes and their weights; no sum leaves its type.
-use Rattle.layout.proofs.Packing.{le32_read}
+-- The bytes and their weights.
+use Rattle.std.proofs.Common.{rules}
+use Rattle.slices.proofs.Numbers.{le32_is}
 use Rattle.slices.proofs.little_endian.read32.Goals as goal
 
 pub returns : goal.returns
-returns c =
-    le32_read c.args.s.now c.args.at _ _
-    c.byte_after.ensures.value c.byte_after-2.ensures.value _ _ c.byte_after-3.ensures.value
-    c.byte_after-4.ensures.value
+returns c = le32_is c.args.s.now c.args.at _ (search rules)

@@ -10,7 +10,7 @@ pub loop-i-init : goal.loop-i-init
 loop-i-init c = (omega arith, c.roots-known.ensures, all_none _)
 
 pub leads_if_used-requires : goal.leads_if_used-requires
-leads_if_used-requires c = record { i_lt_node_count = omega arith; known = c.loop-i.invariant.1 }
+leads_if_used-requires c = c.loop-i.invariant.1
 
 pub returns-then-not-leads_if_used : goal.returns-then-not-leads_if_used
 returns-then-not-leads_if_used c = sym (all_fails _ c.loop-i.i node_count (told c.leads_if_used.ensures.value c.if-not-leads_if_used.true) (omega arith))

@@ -10,13 +10,13 @@ use Rattle.tree.proofs.formed.nodes_ok.Goals as goal
 pub loop-i-init : goal.loop-i-init
 loop-i-init c = (search rules, all_none _)
 
-pub returns-then-not-node_ok : goal.returns-then-not-node_ok
-returns-then-not-node_ok c = sym (all_fails _ c.loop-i.i node_count (told c.node_ok.ensures c.if-not-node_ok.true) (omega arith))
+pub returns-then-not-is_ok : goal.returns-then-not-is_ok
+returns-then-not-is_ok c = sym (all_fails _ c.loop-i.i node_count (told c.is_ok.ensures c.if-not-is_ok.true) (omega arith))
 
 pub loop-i-preserved : goal.loop-i-preserved
 loop-i-preserved c = (
   omega arith,
-  all_more _ c.loop-i.i c.loop-i.invariant.1 (told c.node_ok.ensures c.if-not-node_ok.false),
+  all_more _ c.loop-i.i c.loop-i.invariant.1 (told c.is_ok.ensures c.if-not-is_ok.false),
 )
 
 pub returns : goal.returns

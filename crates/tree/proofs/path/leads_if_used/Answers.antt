@@ -6,16 +6,16 @@ use Rattle.tree.proofs.path.leads_if_used.Goals as goal
 
 pub returns-then-not-is_used : goal.returns-then-not-is_used
 unfolding leads_if_used
-returns-then-not-is_used c = record { value = search (cases, told c.is_used.ensures c.if-not-is_used.true); known_2 = c.requires.known }
+returns-then-not-is_used c = record { value = search (cases, told c.is_used.ensures c.if-not-is_used.true); known_2 = c.requires }
 
 pub returns-then-not-leads_to_root : goal.returns-then-not-leads_to_root
 unfolding leads_if_used
 returns-then-not-leads_to_root c =
     let u = told c.is_used.ensures c.if-not-is_used.false in
-    record { value = sym (rw u (told c.leads_to_root.ensures c.if-not-leads_to_root.true)); known_2 = c.requires.known }
+    record { value = sym (rw u (told c.leads_to_root.ensures c.if-not-leads_to_root.true)); known_2 = c.requires }
 
 pub mark_way-requires : goal.mark_way-requires
-mark_way-requires c = record { i_lt_node_count = c.requires.i_lt_node_count; known = c.requires.known; i_value = told c.leads_to_root.ensures c.if-not-leads_to_root.false }
+mark_way-requires c = record { known = c.requires; node_value = told c.leads_to_root.ensures c.if-not-leads_to_root.false }
 
 pub returns : goal.returns
 unfolding leads_if_used

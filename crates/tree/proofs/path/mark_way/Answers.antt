@@ -1,5 +1,6 @@
 -- The invariant: this node leads to the root, and so does every node with a mark.
 use native.Mathlib.Omega.{arith}
+use borrow.Author.Rules.{rules}
 use Prim.Native.Nat.{◌-◌}
 use Rattle.layout.specs.Sizes.{node_count}
 use Rattle.tree.specs.Nodes.{tree_in}
@@ -7,7 +8,7 @@ use Rattle.tree.proofs.Marks.{leads_forth, unmarked, marked}
 use Rattle.tree.proofs.path.mark_way.Goals as goal
 
 pub loop-init : goal.loop-init
-loop-init c = (c.requires.i_lt_node_count, c.requires.known, c.requires.i_value)
+loop-init c = (search rules, c.requires.known, c.requires.node_value)
 
 pub bounds-known-at : goal.bounds-known-at
 bounds-known-at c = omega (arith, c.loop.invariant.1.each)
@@ -23,11 +24,11 @@ bounds-known-at-in-loop c = omega (arith, c.loop.invariant.1.each)
 
 pub loop-preserved : goal.loop-preserved
 loop-preserved c = let l = c.loop in
-    let t = tree_in c.args.image.now in
+    let t = tree_in c.args.node.now.image.now in
     let up = leads_forth node_count t (node_count - 1) l.at (unmarked node_count t l.known l.invariant.1 l.at l.invariant.0 c.if-known-at.false) l.invariant.2 in (
-      rw c.parent_of-at.ensures up.0,
+      rw c.parent-at.ensures up.0,
       marked node_count t l.known l.invariant.1 l.at l.invariant.0 l.invariant.2,
-      rw c.parent_of-at.ensures up.1,
+      rw c.parent-at.ensures up.1,
     )
 
 pub shape_of-known : goal.shape_of-known

@@ -1,0 +1,16 @@
+-- The bytes that were put, one after the other.
+use mathlib.Core.Path.{refl, sym, ◌∙◌}
+use Rattle.journal.specs.Numbers.{number_bytes}
+use Rattle.journal.proofs.Entries.{laid}
+use Rattle.journal_bytes.specs.Results.{handle_part, fresh_part}
+use Rattle.journal_bytes.proofs.Writing.{joins}
+use Rattle.journal_bytes.proofs.entry.EntryParts.put_derive.Goals as goal
+
+pub returns-clause-out_after : goal.returns-clause-out_after
+returns-clause-out_after c =
+    let a = c.args.self.now in
+    joins (number_bytes a.caller) c.put_fresh.ensures.out_after
+    (joins (fresh_part a.second) refl
+    (joins a.first c.put_bytes-d.ensures.out_after
+    (joins (number_bytes a.value) c.put_number-c.ensures.out_after (joins (number_bytes a.retain) c.put_number-b.ensures.out_after c.put_handle-a.ensures.out_after))))
+    ∙ sym (laid.derive (handle_part a.second) a.retain a.value a.first (fresh_part a.second) a.caller)

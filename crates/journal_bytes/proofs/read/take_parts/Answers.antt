@@ -1,0 +1,30 @@
+-- By the kind: a boot's digests, and a disabling, which has no field.
+use mathlib.Core.Path.{◌≡◌, refl, ◌∙◌}
+use mathlib.Core.List.{List}
+use Prim.Native.Nat.{ℕ}
+use Rattle.layout.specs.Words.{zeros}
+use Rattle.journal.specs.Fields.{read_fields}
+use Rattle.journal_bytes.specs.declared.entry.EntryKind.{EntryKind}
+use Rattle.journal_bytes.specs.declared.entry.EntryKind.TheVariants.{ColdBoot, Update}
+use Rattle.journal_bytes.specs.Kinds.{form_by}
+use Rattle.journal_bytes.specs.Fields.{boot_read}
+use Rattle.journal_bytes.specs.Results.{parts_of, parts_read}
+use Rattle.journal_bytes.proofs.read.take_parts.Goals as goal
+
+cold_boot : (kind : EntryKind) (l : List ℕ) → kind ≡ ColdBoot → boot_read kind l ≡ parts_read (form_by kind) l
+unfolding boot_read parts_of parts_read
+cold_boot kind l h = rw h refl
+
+update : (kind : EntryKind) (l : List ℕ) → kind ≡ Update → boot_read kind l ≡ parts_read (form_by kind) l
+unfolding boot_read parts_of parts_read
+update kind l h = rw h refl
+
+pub returns-in-ColdBoot : goal.returns-in-ColdBoot
+returns-in-ColdBoot c = c.take_boot.ensures ∙ cold_boot c.args.kind c.args.s.now c.in-ColdBoot.is
+
+pub returns-in-Update : goal.returns-in-Update
+returns-in-Update c = c.take_boot-in-Update.ensures ∙ update c.args.kind c.args.s.now c.in-Update.is
+
+pub returns-in-Disabling : goal.returns-in-Disabling
+unfolding parts_of parts_read read_fields zeros
+returns-in-Disabling c = rw (c.bare.ensures, c.in-Disabling.is) refl

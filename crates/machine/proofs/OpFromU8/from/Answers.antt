@@ -1,0 +1,42 @@
+-- The number picks the act on both sides.
+use native.Mathlib.Omega.{arith}
+use borrow.Author.Tests.{ne_eqb}
+use Rattle.machine.specs.Call.{op_of}
+use Rattle.machine.proofs.OpFromU8.from.Goals as goal
+
+pub returns-in-0 : goal.returns-in-0
+unfolding op_of
+returns-in-0 c = rw c.in-0.is
+
+pub returns-in-1 : goal.returns-in-1
+unfolding op_of
+returns-in-1 c = rw c.in-1.is
+
+pub returns-in-2 : goal.returns-in-2
+unfolding op_of
+returns-in-2 c = rw c.in-2.is
+
+pub returns-in-3 : goal.returns-in-3
+unfolding op_of
+returns-in-3 c = rw c.in-3.is
+
+pub returns-in-4 : goal.returns-in-4
+unfolding op_of
+returns-in-4 c = rw c.in-4.is
+
+pub returns-in-5 : goal.returns-in-5
+unfolding op_of
+returns-in-5 c = rw c.in-5.is
+
+pub returns-in_default : goal.returns-in_default
+unfolding op_of
+returns-in_default c =
+    let n = c.args.n in
+    rw (
+      ne_eqb n 0 (omega arith),
+      ne_eqb n 1 (omega arith),
+      ne_eqb n 2 (omega arith),
+      ne_eqb n 3 (omega arith),
+      ne_eqb n 4 (omega arith),
+      ne_eqb n 5 (omega arith),
+    )

@@ -1,8 +1,0 @@
--- Both halves of the first word.
-use Rattle.tree.specs.Tree.{is_root}
-use Rattle.tree.specs.Nodes.{used, parent, tree_in}
-use Rattle.tree.proofs.node.is_root.Goals as goal
-
-pub returns : goal.returns
-unfolding is_root used parent tree_in
-returns c = rw c.node_word.ensures at c.heads_root.ensures

@@ -1,7 +1,0 @@
--- The flag's word, by `node_word`.
-use Rattle.tree.specs.Nodes.{used, tree_in}
-use Rattle.tree.proofs.node.is_used.Goals as goal
-
-pub returns : goal.returns
-unfolding used tree_in
-returns c = rw c.node_word.ensures
