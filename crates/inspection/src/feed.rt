@@ -1,31 +1,28 @@
 // One piece more of the input, byte by byte.
-ghost use Rattle.std.specs.Prelude.{ℕ, ◌+◌, ◌<◌, ◌≡◌, List, Some};
-ghost use Rattle.journal.specs.Entries.{longest};
-ghost use Rattle.journal_bytes.specs.Results.{entry_in};
-ghost use Rattle.recount.specs.OnImage.{made_on};
-ghost use Rattle.replaying.specs.Report.{journal_max};
-ghost use Rattle.inspection.specs.Stages.{reader_of, stage_of, counted_with, journal_byte, one_byte, fed_with};
+ghost use Rattle.std.specs.Prelude.{ℕ, ◌≡◌, List};
+ghost use Rattle.journal.specs.Entries.{read_entry};
+ghost use Rattle.inspection.specs.Stages.{stage_of, counting_of, counted_on, journal_byte, one_byte, fed_with};
 
 use crate::reader::{IMAGE_BYTES, JOURNAL_MAX, Reader};
-use journal_bytes::entry::{EntryParts, LONGEST};
+use journal_bytes::entry::LONGEST;
 use journal_bytes::read::read_entry;
 use layout::refusals::Refusal;
 use recount::count::count;
 
-// A whole entry, the byte b its last: it counts, or is refused.
-fn whole(reader: &mut Reader, scratch: &mut [u32], b: u8, entry: EntryParts)
-    requires { (reader.old.held < longest) × (reader.old.offset + reader.old.held < journal_max) }
-    ensures { (saved : List ℕ) → stage_of reader.new saved scratch.new ≡ counted_with (stage_of reader.old saved scratch.old) b (made_on scratch.old (entry_in entry)) }
+// The entry that the bytes are, counted on the scratch image. Refused as it is read; then 24, where no work of it counts there.
+fn count_entry(bytes: &[u8], scratch: &mut [u32]) -> Result<(), Refusal>
+    ensures value { result ≡ counting_of scratch.old (read_entry bytes.now) }
+    ensures scratch_after { scratch.new ≡ counted_on scratch.old (read_entry bytes.now) }
 {
-    if !count(scratch, entry) {
-        reader.refusal = Some(Refusal::Uncounted);
-        return;
+    match read_entry(bytes) {
+        Ok((entry, _)) => {
+            if !count(scratch, entry) {
+                return Err(Refusal::Uncounted);
+            }
+            Ok(())
+        }
+        Err(refusal) => Err(refusal),
     }
-    let held = reader.held;
-    reader.refusal = None;
-    reader.offset += held + 1;
-    reader.held = 0;
-    reader.waiting[held] = b;
 }
 
 // A byte of the journal.
@@ -43,18 +40,20 @@ fn push_journal(reader: &mut Reader, scratch: &mut [u32], b: u8)
     if JOURNAL_MAX - held <= reader.offset {
         return;
     }
-    let mut waiting = reader.waiting;
-    waiting[held] = b;
     let end = held + 1;
-    match read_entry(&waiting[..end]) {
-        Ok((entry, _)) => whole(reader, scratch, b, entry),
+    let before = reader.waiting[held];
+    reader.waiting[held] = b;
+    match count_entry(&reader.waiting[..end], scratch) {
+        Ok(()) => {
+            reader.offset += end;
+            reader.held = 0;
+        }
         Err(refusal) => match refusal {
-            Refusal::CutEntry => {
-                reader.refusal = None;
-                reader.held = end;
-                reader.waiting = waiting;
+            Refusal::CutEntry => reader.held = end,
+            _ => {
+                reader.refusal = Some(refusal);
+                reader.waiting[held] = before;
             }
-            _ => reader.refusal = Some(refusal),
         },
     }
 }

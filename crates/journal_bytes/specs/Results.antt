@@ -88,6 +88,17 @@ parts_read f l = map_read (λ vs. parts_of (entry_of f vs)) (read_fields (fields
 unfoldable pub entry_read : List ℕ → Result (EntryParts × ℕ) Refusal
 entry_read l = taken_of l (map_read parts_of (read_entry l))
 
+-- ---- of the private functions
+
+-- a kind, and zero for all that it may tell
+abbrev pub bare : EntryKind → EntryParts
+bare k = parts_with k 0 0 0 0 (zeros 48) (zeros 48)
+
+-- parts that are read in place, with the bytes behind them
+abbrev pub filled : Result (Bor (List ℕ)) Refusal → EntryParts → Read EntryParts
+filled (Ok rest) p = got p rest.now
+filled (Err r) p = refused r
+
 -- ---- writing: bytes into a lent buffer, "then 23, writing nothing, if the buffer is too short"
 
 -- the number of a taking into a buffer of n bytes; success is 0

@@ -1,8 +1,8 @@
 // An entry of the journal (document 02, §3): one counted work with its inputs, and never the secret.
 ghost use Rattle.std.specs.Prelude.{◌≡◌};
-ghost use Rattle.layout.specs.Words.{zeros};
 ghost use Rattle.journal.specs.Entries.{kind_byte};
 ghost use Rattle.journal_bytes.specs.Kinds.{form_by, kind_at};
+ghost use Rattle.journal_bytes.specs.Results.{bare};
 
 use layout::refusals::Refusal;
 
@@ -102,7 +102,7 @@ impl EntryParts {
     // A kind, and zero for all that it may tell.
     #[tactic(auto, unfolding(layout::specs::Words::zeros))]
     pub(crate) fn bare(kind: EntryKind) -> EntryParts
-        ensures { result ≡ record { kind = kind; value = 0; svn = 0; retain = 0; caller = 0; first = zeros 48; second = zeros 48 } }
+        ensures { result ≡ bare kind }
     {
         EntryParts {
             kind,

@@ -8,7 +8,6 @@ use native.Mathlib.Omega.{arith}
 use borrow.Author.Tests.{eqb-true, ltb-true, eq-eqb}
 use lib.Dec.{eqb, ltb}
 use lib.ListN.{length, set}
-use Rattle.std.specs.Result.{result_unwrap_or}
 use Rattle.std.proofs.Common.{Result, Ok, Err}
 use Rattle.layout.specs.Sizes.{image_words}
 use Rattle.layout.specs.Numbers.{told_number, refusal_number}
@@ -120,13 +119,3 @@ pub kept_result : (w : Work) (image : List ℕ) {e : Refusal} → store_handed w
     → store_result w image ≡ record { number = refusal_number e; work = w }
 unfolding store_handed store_result store_number
 kept_result w image {e} h = kept_by w e (store_given w image) h
-
--- the work that is handed back, or the work as it was
-or_kept_by : (w : Work) (g : Result (Unit {0}) Refusal)
-    → result_unwrap_or (handed (moved w) g) w ≡ (cond (eqb (told_number g) 0) (numbered 0 (moved w)) (numbered (told_number g) w)).work
-or_kept_by w (Ok u) = refl
-or_kept_by w (Err r) = rw (refused_ne r)
-
-pub or_kept : (w : Work) (image : List ℕ) → result_unwrap_or (store_handed w image) w ≡ (store_result w image).work
-unfolding store_handed store_result store_number
-or_kept w image = or_kept_by w (store_given w image)

@@ -6,7 +6,7 @@ pub mod entry;
 pub mod lent;
 
 ghost use Rattle.std.specs.Prelude.{◌≡◌, length};
-ghost use Rattle.work.specs.Entries.{left_of, store_handed, store_image, answer_given, answer_buffer};
+ghost use Rattle.work.specs.Entries.{left_of, store_given, store_handed, store_result, store_image, answer_given, answer_buffer};
 ghost use Rattle.work.specs.Parts.{storing, lent_work};
 ghost use Rattle.work.specs.Recorded.{entry_result, entry_buffer};
 
@@ -58,17 +58,26 @@ impl Work {
         self.lent().left()
     }
 
-    // One store: the work is handed back with its position one store on. Refused, with nothing stored: an image of
-    // the wrong size; then no store left. The caller's work is a copy, and stays.
+    // One store, and the position moves one on. Refused, with nothing stored and the work as it was: an image of the wrong
+    // size; then no store left.
+    pub fn advance(&mut self, image: &mut [u32]) -> Result<(), Refusal>
+        ensures value { result ≡ store_given self.old image.old }
+        ensures self_after { self.new ≡ (store_result self.old image.old).work }
+        ensures image_after { image.new ≡ store_image self.old image.old }
+    {
+        self.lent().store(image)?;
+        self.position += 1;
+        Ok(())
+    }
+
+    // The same store, of a copy that is handed back: the caller's work stays.
     pub fn store(self, image: &mut [u32]) -> Result<Work, Refusal>
         ensures value { result ≡ store_handed self image.old }
         ensures image_after { image.new ≡ store_image self image.old }
     {
-        self.lent().store(image)?;
-        Ok(Work {
-            position: self.position + 1,
-            ..self
-        })
+        let mut next = self;
+        next.advance(image)?;
+        Ok(next)
     }
 
     // The answer into the front of the buffer, and its length. Refused, with nothing written: stores left or not

@@ -4,13 +4,19 @@ use mathlib.Core.Path.{◌≡◌, refl, sym, ap, ◌∙◌}
 use mathlib.Core.Bool.{true, false}
 use native.Mathlib.Omega.{arith}
 use borrow.Author.Tests.{le-leb, lt-leb}
+use mathlib.Core.List.{List}
+use lib.ListN.{get_or, set}
+use lib.Seq.{set-set, set-get_or}
+use Rattle.std.specs.Prelude.{Option}
+use Rattle.std.proofs.Common.{Some, Result, Ok, Err}
+use Rattle.layout.specs.declared.refusals.Refusal.{Refusal}
 use Rattle.std.specs.Option.{is_some}
 use Rattle.layout.specs.Refusals.{cut_entry}
-use Rattle.journal.specs.Entries.{longest}
+use Rattle.journal.specs.Entries.{read_entry, longest}
 use Rattle.replaying.specs.Report.{journal_max}
 use Rattle.inspection.specs.declared.reader.Reader.{Reader}
-use Rattle.inspection.specs.Stages.{Stage, stage_of, refused_with, so_far, journal_byte}
-use Rattle.inspection.proofs.Reading.{read_waits, read_refuses, read_counts, reads_on}
+use Rattle.inspection.specs.Stages.{Stage, stage_of, reader_of, refused_with, counting_of, counted_on, so_far, journal_byte}
+use Rattle.inspection.proofs.Reading.{was_counted, was_cut, was_refused, none_of, reads_on}
 use Rattle.inspection.proofs.feed.push_journal.Goals as goal
 
 module _ (x : Stage) (b : ℕ) where
@@ -39,27 +45,46 @@ returns-then-held-reader c = λ saved.
     let over : journal_max ≤ r.offset + r.held = omega arith in
     past (stage_of r saved c.args.scratch.now) c.args.b (sym c.is_some.ensures ∙ c.if-is_some.false) c.if-held-ge-LONGEST.false over
 
+module _ (r : Reader) (saved scratch : List ℕ) (b : ℕ) (n : is_some r.refusal ≡ false) (h : r.held < longest) (o : r.offset + r.held < journal_max) where
+  abbrev x : Stage
+  x = stage_of r saved scratch
+
+  counts : {told : Result (Unit {0}) Refusal} {after : List ℕ} {u : Unit {0}} → told ≡ counting_of scratch (read_entry (so_far r b))
+      → after ≡ counted_on scratch (read_entry (so_far r b)) → told ≡ Ok u
+      → stage_of (reader_of r.seen r.refusal (r.offset + (r.held + 1)) 0 (set r.waiting r.held b)) saved after ≡ journal_byte x b
+  counts {after = after} e a i =
+      ap (λ (p : Option Refusal). stage_of (reader_of r.seen p (r.offset + (r.held + 1)) 0 (set r.waiting r.held b)) saved after) (none_of r.refusal n)
+      ∙ sym (reads_on x b n h o ∙ was_counted x b (read_entry (so_far r b)) e a i)
+
+  waits : {told : Result (Unit {0}) Refusal} {after : List ℕ} → told ≡ counting_of scratch (read_entry (so_far r b))
+      → after ≡ counted_on scratch (read_entry (so_far r b)) → told ≡ Err cut_entry
+      → stage_of (reader_of r.seen r.refusal r.offset (r.held + 1) (set r.waiting r.held b)) saved after ≡ journal_byte x b
+  waits {after = after} e a i =
+      ap (λ (p : Option Refusal). stage_of (reader_of r.seen p r.offset (r.held + 1) (set r.waiting r.held b)) saved after) (none_of r.refusal n)
+      ∙ was_cut x b (read_entry (so_far r b)) e a i
+      ∙ sym (reads_on x b n h o)
+
+  -- the byte is taken back
+  refuses : {told : Result (Unit {0}) Refusal} {after : List ℕ} {f : Refusal} → told ≡ counting_of scratch (read_entry (so_far r b))
+      → after ≡ counted_on scratch (read_entry (so_far r b)) → (f ≡ cut_entry → ⊥) → told ≡ Err f
+      → stage_of (reader_of r.seen (Some f) r.offset r.held (set (set r.waiting r.held b) r.held (get_or r.waiting r.held 0))) saved after ≡ journal_byte x b
+  refuses {after = after} {f} e a c i =
+      ap (λ (l : List ℕ). stage_of (reader_of r.seen (Some f) r.offset r.held l) saved after)
+      (set-set r.waiting r.held b (get_or r.waiting r.held 0) ∙ set-get_or r.waiting r.held 0)
+      ∙ was_refused x b (read_entry (so_far r b)) e a c i
+      ∙ sym (reads_on x b n h o)
+
 pub returns-in-Ok : goal.returns-in-Ok
 returns-in-Ok c = λ saved.
-    let r = c.args.reader.now in
-    let x = stage_of r saved c.args.scratch.now in
-    let within : r.offset + r.held < journal_max = omega arith in
-    c.whole.ensures saved
-    ∙ sym (reads_on x c.args.b (sym c.is_some.ensures ∙ c.if-is_some.false) c.if-held-ge-LONGEST.false within
-    ∙ read_counts x c.args.b (so_far r c.args.b) c.in-Ok.entry c.in-Ok.field-0-1 c.in-Ok.ensures)
+    counts c.args.reader.now saved c.args.scratch.now c.args.b (sym c.is_some.ensures ∙ c.if-is_some.false) c.if-held-ge-LONGEST.false (omega arith)
+    c.count_entry.ensures.value c.count_entry.ensures.scratch_after c.in-Ok.is
 
 pub returns-in-CutEntry : goal.returns-in-CutEntry
 returns-in-CutEntry c = λ saved.
-    let r = c.args.reader.now in
-    let x = stage_of r saved c.args.scratch.now in
-    let within : r.offset + r.held < journal_max = omega arith in
-    sym (reads_on x c.args.b (sym c.is_some.ensures ∙ c.if-is_some.false) c.if-held-ge-LONGEST.false within
-    ∙ read_waits x c.args.b (so_far r c.args.b) (rw c.in-CutEntry.is at c.in-Err.ensures))
+    waits c.args.reader.now saved c.args.scratch.now c.args.b (sym c.is_some.ensures ∙ c.if-is_some.false) c.if-held-ge-LONGEST.false (omega arith)
+    c.count_entry.ensures.value c.count_entry.ensures.scratch_after (c.in-Err.is ∙ ap Err c.in-CutEntry.is)
 
 pub returns-in_default : goal.returns-in_default
 returns-in_default c = λ saved.
-    let r = c.args.reader.now in
-    let x = stage_of r saved c.args.scratch.now in
-    let within : r.offset + r.held < journal_max = omega arith in
-    sym (reads_on x c.args.b (sym c.is_some.ensures ∙ c.if-is_some.false) c.if-held-ge-LONGEST.false within
-    ∙ read_refuses x c.args.b (so_far r c.args.b) c.in-Err.refusal c.in_default.not-CutEntry c.in-Err.ensures)
+    refuses c.args.reader.now saved c.args.scratch.now c.args.b (sym c.is_some.ensures ∙ c.if-is_some.false) c.if-held-ge-LONGEST.false (omega arith)
+    c.count_entry.ensures.value c.count_entry.ensures.scratch_after c.in_default.not-CutEntry c.in-Err.is

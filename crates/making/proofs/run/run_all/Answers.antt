@@ -3,7 +3,6 @@ use native.Mathlib.Omega.{arith}
 use native.Mathlib.Nat.{sub-zero}
 use Prim.Native.Nat.{◌+◌, ◌-◌}
 use mathlib.Core.Path.{◌≡◌, sym, ap, ◌∙◌}
-use Rattle.work.proofs.Numbered.{or_kept}
 use Rattle.making.specs.Run.{After, all_stores}
 use Rattle.making.proofs.After.{after_step, after_none}
 use Rattle.making.proofs.run.run_all.Goals as goal
@@ -16,12 +15,7 @@ loop-i-preserved c =
     let l = c.loop-i in
     let n = c.left-n.result in
     let h : n - l.i ≡ n - (l.i + 1) + 1 = omega arith in
-    l.invariant ∙ after_step (n - l.i) (n - (l.i + 1)) l.at l.image h ∙ rw (
-      ← or_kept l.at l.image,
-      ← c.store.ensures.value,
-      ← c.unwrap_or-at.ensures,
-      ← c.store.ensures.image_after,
-    )
+    l.invariant ∙ after_step (n - l.i) (n - (l.i + 1)) l.at l.image h ∙ rw (← c.advance.ensures.self_after, ← c.advance.ensures.image_after)
 
 pub returns : goal.returns
 unfolding all_stores
