@@ -14,15 +14,11 @@ fn count_entry(bytes: &[u8], scratch: &mut [u32]) -> Result<(), Refusal>
     ensures value { result ≡ counting_of scratch.old (read_entry bytes.now) }
     ensures scratch_after { scratch.new ≡ counted_on scratch.old (read_entry bytes.now) }
 {
-    match read_entry(bytes) {
-        Ok((entry, _)) => {
-            if !count(scratch, entry) {
-                return Err(Refusal::Uncounted);
-            }
-            Ok(())
-        }
-        Err(refusal) => Err(refusal),
+    let (entry, _) = read_entry(bytes)?;
+    if !count(scratch, entry) {
+        return Err(Refusal::Uncounted);
     }
+    Ok(())
 }
 
 // A byte of the journal.
