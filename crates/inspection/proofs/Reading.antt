@@ -27,7 +27,6 @@ use Rattle.journal_bytes.specs.declared.entry.EntryParts.{EntryParts}
 use Rattle.journal_bytes.proofs.Entries.{parts_entry}
 use Rattle.recount.specs.OnImage.{made_on, is_made, image_after}
 use Rattle.replaying.specs.Report.{image_bytes, journal_max}
-use Rattle.inspection.specs.declared.reader.Reader.{Reader}
 use Rattle.inspection.specs.Stages.{Stage, verdict_at, told_of, told, stage_of, reader_of, refused_with, waiting_with, counted_with, counting_in, counting_of, counted_on, read_with, so_far, journal_byte, one_byte}
 
 -- ---- the bytes of an entry: what they count as by what was read

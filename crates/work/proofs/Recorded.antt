@@ -11,7 +11,6 @@ use Rattle.std.proofs.Common.{Result, Ok, Err}
 use Rattle.layout.specs.declared.refusals.Refusal.{Refusal}
 use Rattle.layout.specs.declared.refusals.Refusal.TheVariants.{WrongImage, StoresLeft}
 use Rattle.layout.specs.Numbers.{refusal_number}
-use Rattle.layout.specs.Refusals.{stores_left}
 use Rattle.table.specs.Table.{number_of, index_ok}
 use Rattle.table.specs.declared.Kind.{Kind}
 use Rattle.table.specs.declared.Kind.TheVariants.{Nothing, Disabling, Stash, Update, ColdBoot, Extension, Derive, Replace, Extend, Rotate, Destroy}

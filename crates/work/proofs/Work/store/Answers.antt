@@ -1,5 +1,5 @@
 -- `Work::store` meets its contract: the copy moves on as `advance` says (Numbered). Assumes nothing.
-use mathlib.Core.Path.{◌≡◌, sym, ap, ◌∙◌}
+use mathlib.Core.Path.{sym, ◌∙◌}
 use Rattle.std.proofs.lemmas.Result.{err_from_is_err_and}
 use Rattle.work.proofs.Numbered.{made_work, made_handed, refused_handed}
 use Rattle.work.proofs.Work.store.Goals as goal
