@@ -8,7 +8,7 @@ use lib.Seq.{take_at, drop_at, take-suc-set}
 use borrow.Rule.Slice.PartMut.{put_mid}
 use Rattle.layout.specs.Words.{tab, zeros}
 use Rattle.layout.proofs.Tab.{drop_zeros}
-use Rattle.inspection.specs.declared.finish.Told.{Told}
+use Rattle.layout.specs.declared.bytes.Bytes.{Bytes}
 use Rattle.inspection.specs.Stages.{told_max, told_in}
 
 -- two byte strings copied into an array of n zeros, one behind the other
@@ -36,8 +36,8 @@ more_behind f v l k b h e p =
     rw (one, take-suc-set l (1 + k) b h, p, two, tab, e)
 
 -- what is told lies within its array
-pub told_within : (r : Told) (l : List ℕ) → r ≡ told_in l → r.len ≤ length r.bytes
+pub told_within : (r : Bytes told_max) (l : List ℕ) → r ≡ told_in l → r.len ≤ length r.bytes
 unfolding zeros
 told_within r l e =
     omega
-    (arith, ap (λ (t : Told). t.len) e, ap (λ (t : Told). length t.bytes) e, length-append l (zeros (told_max - length l)))
+    (arith, ap (λ (t : Bytes told_max). t.len) e, ap (λ (t : Bytes told_max). length t.bytes) e, length-append l (zeros (told_max - length l)))

@@ -15,7 +15,7 @@ use Rattle.journal.specs.Entries.{Entry, read_entry, longest}
 use Rattle.recount.specs.OnImage.{made_on, image_after}
 use Rattle.replaying.specs.Report.{image_bytes, journal_max, compared_at}
 use Rattle.inspection.specs.declared.reader.Reader.{Reader}
-use Rattle.inspection.specs.declared.finish.Told.{Told}
+use Rattle.layout.specs.declared.bytes.Bytes.{Bytes}
 
 -- ---- what is kept: the reader, the saved image's bytes, and the image on which entries are counted
 pub record Stage : Type 0 where
@@ -132,5 +132,5 @@ abbrev pub told_max : ℕ
 told_max = 4 + 8 + 1 + 4 * told_words
 
 -- what is told, in the array of the most bytes: those past it are zero
-abbrev pub told_in : List ℕ → Told
+abbrev pub told_in : List ℕ → Bytes told_max
 told_in l = record { bytes = l ++ zeros (told_max - length l); len = length l }

@@ -7,6 +7,7 @@ ghost use Rattle.inspection.specs.declared.reader.Reader.{Reader};
 ghost use Rattle.inspection.specs.Stages.{stage_of, told_words, told_in, same_from, verdict_at, told};
 
 use crate::reader::{IMAGE_BYTES, Reader};
+use layout::bytes::Bytes;
 use layout::refusals::Refusal;
 use layout::{ATTESTATION_AT, IMAGE_WORDS, MARK_AT, PCR2_AT, REGISTER_WORDS, REGISTERS};
 use packing::{byte_of, word};
@@ -22,13 +23,6 @@ const REGISTER_BYTES: usize = 4 * REGISTER_WORDS * (REGISTERS - 2);
 
 // The most bytes: with a verdict's byte between those.
 pub const TOLD_MAX: usize = HEAD_BYTES + 1 + REGISTER_BYTES;
-
-// What is written: its first `len` bytes; the others are zero. The memory is fixed, with no heap.
-#[derive(Clone, Copy)]
-pub struct Told {
-    pub bytes: [u8; TOLD_MAX],
-    pub len: usize,
-}
 
 fn head(number: u32, offset: usize) -> [u8; HEAD_BYTES]
     ensures { result ≡ bytes4 number ++ bytes8 offset }
@@ -49,20 +43,20 @@ fn head(number: u32, offset: usize) -> [u8; HEAD_BYTES]
     ]
 }
 
-fn joined(front: [u8; HEAD_BYTES], back: &[u8]) -> Told
+fn joined(front: [u8; HEAD_BYTES], back: &[u8]) -> Bytes<TOLD_MAX>
     requires { length back.now ≤ 1 + 4 * told_words }
     ensures { result ≡ told_in (front ++ back.now) }
 {
     let mut bytes = [0u8; TOLD_MAX];
     bytes[..HEAD_BYTES].copy_from_slice(&front);
     bytes[HEAD_BYTES..HEAD_BYTES + back.len()].copy_from_slice(back);
-    Told {
+    Bytes {
         bytes,
         len: HEAD_BYTES + back.len(),
     }
 }
 
-fn refused(refusal: Refusal, offset: usize) -> Told
+fn refused(refusal: Refusal, offset: usize) -> Bytes<TOLD_MAX>
     ensures { result ≡ told_in (bytes4 (refusal_number refusal) ++ bytes8 offset) }
 {
     joined(head(u32::from(refusal), offset), &[])
@@ -92,7 +86,7 @@ fn with_registers(verdict: u8, scratch: &[u32]) -> [u8; 1 + REGISTER_BYTES]
     out
 }
 
-fn verdict(saved: &[u8], scratch: &[u32]) -> Told
+fn verdict(saved: &[u8], scratch: &[u32]) -> Bytes<TOLD_MAX>
     ensures { (reader : Reader) → result ≡ told_in (bytes4 0 ++ (bytes8 0 ++ verdict_at (stage_of reader saved.now scratch.now))) }
 {
     let front = head(0, 0);
@@ -109,7 +103,7 @@ fn verdict(saved: &[u8], scratch: &[u32]) -> Told
 }
 
 // What is written once the input has ended.
-pub fn finish(reader: Reader, saved: &[u8], scratch: &[u32]) -> Told
+pub fn finish(reader: Reader, saved: &[u8], scratch: &[u32]) -> Bytes<TOLD_MAX>
     ensures { result ≡ told_in (told (stage_of reader saved.now scratch.now)) }
 {
     if reader.seen < IMAGE_BYTES {

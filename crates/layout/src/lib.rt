@@ -5,6 +5,7 @@
 #![tactic(auto)]
 
 pub mod geometry;
+pub mod bytes;
 pub mod refusals;
 pub mod registers;
 

@@ -1,13 +1,14 @@
 -- The bytes of a response that count are the program's output, and an input's front that is used has the whole's. Assumes nothing.
-use Rattle.std.proofs.Common.{◌≡◌, ℕ, List, length, take, ap, ◌∙◌, refl, subst, arith, take-take, Option, None, Some, IfSome}
+use Rattle.std.proofs.Common.{◌≡◌, ℕ, ◌+◌, List, length, take, ap, ◌∙◌, refl, subst, arith, take-take, Option, None, Some, IfSome}
 use Rattle.std.specs.Io.KnownBytes.{Appends}
 use lib.Seq.{take_at}
-use Rattle.respond.specs.declared.Response.{Response}
+use Rattle.layout.specs.Sizes.{answer_max}
+use Rattle.layout.specs.declared.bytes.Bytes.{Bytes}
 use Rattle.respond.specs.Program.{input_max, output_of, program_output, response_of}
 
-pub counting_bytes : (r : Response) (o : List ℕ) → r ≡ response_of o → take r.len r.bytes ≡ o
+pub counting_bytes : (r : Bytes (4 + answer_max)) (o : List ℕ) → r ≡ response_of o → take r.len r.bytes ≡ o
 unfolding response_of
-counting_bytes r o e = ap (λ (x : Response). take x.len x.bytes) e ∙ take_at o _ (length o) refl
+counting_bytes r o e = ap (λ (x : Bytes (4 + answer_max)). take x.len x.bytes) e ∙ take_at o _ (length o) refl
 
 used_front : (xs front : List ℕ) → front ≡ take input_max xs → program_output front ≡ program_output xs
 unfolding program_output

@@ -10,7 +10,7 @@ ghost use Rattle.respond.specs.Program.{program_output};
 ghost use Rattle.mailbox.specs.declared.ExchangeError.TheVariants.{Unread, Unwritten};
 
 use reading::{ReadFailed, read_whole};
-use respond::{INPUT_MAX, Response, respond};
+use respond::{INPUT_MAX, respond};
 use std::io::{Read, Write};
 use std::{fmt, io};
 
@@ -50,8 +50,8 @@ impl From<io::Error> for ExchangeError {
 fn answer<W: Write>(input: &[u8], out: &mut W) -> io::Result<()>
     ensures { OnOk result (Appends (W.contents out.old) (W.contents out.new) (program_output input.now)) }
 {
-    let Response { len, bytes } = respond(input);
-    out.write_all(&bytes[..len])
+    let response = respond(input);
+    out.write_all(&response.bytes[..response.len])
 }
 
 // Reads a code and a request, and answers them.

@@ -6,7 +6,7 @@ use Rattle.table.specs.declared.Kind.{Kind}
 use Rattle.table.specs.declared.Kind.TheVariants.{Nothing}
 use Rattle.work.specs.declared.Work.{Work}
 use Rattle.making.specs.declared.Values.{Values}
-use Rattle.making.specs.declared.Answer.{Answer}
+use Rattle.layout.specs.declared.bytes.Bytes.{Bytes}
 use Rattle.work.specs.Entries.{work_from}
 
 -- words that a kind does not store are zero, and so are the inputs of a kind that has none to tell
@@ -21,13 +21,13 @@ no_values =
     }
 
 -- an answer in the work's array: bytes past it are zero
-abbrev pub answer_in : List ℕ → Answer
+abbrev pub answer_in : List ℕ → Bytes answer_max
 answer_in a = record { bytes = a ++ zeros (answer_max - length a); len = length a }
 
-abbrev pub no_answer : Answer
+abbrev pub no_answer : Bytes answer_max
 no_answer = record { bytes = zeros answer_max; len = 0 }
 
-abbrev pub made_work : Kind → ℕ → Values → Answer → Work
+abbrev pub made_work : Kind → ℕ → Values → Bytes answer_max → Work
 made_work k position v a = work_from k position v.register v.journey v.node v.secret a.bytes a.len v.inputs
 
 -- a work of which no store is made, with the answer a

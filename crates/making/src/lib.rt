@@ -6,6 +6,7 @@ pub mod run;
 ghost use Rattle.std.specs.Prelude.{◌≡◌, []};
 ghost use Rattle.making.specs.Made.{no_values, no_answer, made_work, plain_work, refused_work};
 
+use layout::bytes::Bytes;
 use layout::{ANSWER_MAX, INPUT_BYTES, NODE_WORDS, REGISTER_WORDS};
 use table::Kind;
 use work::Work;
@@ -18,13 +19,6 @@ pub struct Values {
     pub node: [u32; NODE_WORDS],
     pub secret: [u32; REGISTER_WORDS],
     pub inputs: [u8; INPUT_BYTES],
-}
-
-// An answer: its first `len` bytes; the others are zero. A fixed buffer with its length, as all here: no heap.
-#[derive(Clone, Copy)]
-pub struct Answer {
-    pub bytes: [u8; ANSWER_MAX],
-    pub len: usize,
 }
 
 // No word to store, and no input to tell.
@@ -41,17 +35,17 @@ pub fn no_values() -> Values
 }
 
 // An answer of no bytes.
-pub fn no_answer() -> Answer
+pub fn no_answer() -> Bytes<ANSWER_MAX>
     ensures { result ≡ no_answer }
 {
-    Answer {
+    Bytes {
         bytes: [0u8; ANSWER_MAX],
         len: 0,
     }
 }
 
 // A work of which no store is made.
-pub fn new_work(kind: Kind, values: Values, answer: Answer) -> Work
+pub fn new_work(kind: Kind, values: Values, answer: Bytes<ANSWER_MAX>) -> Work
     ensures { result ≡ made_work kind 0 values answer }
 {
     let register = values.register;

@@ -12,6 +12,7 @@ use journal_bytes::write::write_entry;
 use opening::commands::{
     BARE_LENGTH, DISABLE_CODE, EXTEND_CODE, EXTEND_LENGTH, INVOKE_CODE, STASH_CODE, STASH_LENGTH,
 };
+use layout::bytes::Bytes;
 use packing::four;
 
 // A request's checksum is in front, and its fields are behind it.
@@ -32,13 +33,6 @@ const ROOM: usize = 112;
 
 // The kinds of entries before those of the tree commands 1 to 4.
 const KINDS_BEFORE: u8 = 5;
-
-// A tree command's request. Bytes past its length do not count: the memory is fixed, with no heap.
-#[derive(Clone, Copy)]
-pub(crate) struct TreeRequest {
-    pub(crate) bytes: [u8; ROOM],
-    pub(crate) length: usize,
-}
 
 // Puts bytes at an index.
 fn put(out: &mut [u8], at: usize, s: &[u8])
@@ -88,10 +82,10 @@ pub(crate) fn extend_bytes(register: u32, digest: [u8; DIGEST_BYTES]) -> [u8; EX
 }
 
 // Checksum and size in front of a tree command's data.
-fn framed(content: &[u8]) -> TreeRequest
+fn framed(content: &[u8]) -> Bytes<ROOM>
     requires { length content.now ≤ longest }
-    ensures bytes_value { take result.length result.bytes ≡ sealed invoke_code (bytes4 (length content.now) ++ content.now) }
-    ensures length_in_bounds { result.length ≤ length result.bytes }
+    ensures bytes_value { take result.len result.bytes ≡ sealed invoke_code (bytes4 (length content.now) ++ content.now) }
+    ensures length_in_bounds { result.len ≤ length result.bytes }
 {
     let mut out = [0u8; ROOM];
     let size = four(content.len() as u32);
@@ -99,19 +93,19 @@ fn framed(content: &[u8]) -> TreeRequest
     put(&mut out, DATA_AT, content);
     let end = DATA_AT + content.len();
     seal(INVOKE_CODE, &mut out[..end]);
-    TreeRequest {
+    Bytes {
         bytes: out,
-        length: end,
+        len: end,
     }
 }
 
 // The request for a tree command's entry. Its data is the entry's bytes without the last `tail`, which
 // are those of the fresh handle, if any, and of the caller, here one; only the first byte differs.
-pub(crate) fn tree_bytes(entry: EntryParts, tail: usize) -> TreeRequest
+pub(crate) fn tree_bytes(entry: EntryParts, tail: usize) -> Bytes<ROOM>
     requires bound { 5 ≤ kind_byte (form_of (entry_in (without_caller entry))) }
     requires tail_in_bounds { tail < length (entry_bytes (entry_in (without_caller entry))) }
-    ensures bytes_value { take result.length result.bytes ≡ sealed invoke_code (bytes4 (length (data_within tail (entry_in (without_caller entry)))) ++ data_within tail (entry_in (without_caller entry))) }
-    ensures length_in_bounds { result.length ≤ length result.bytes }
+    ensures bytes_value { take result.len result.bytes ≡ sealed invoke_code (bytes4 (length (data_within tail (entry_in (without_caller entry)))) ++ data_within tail (entry_in (without_caller entry))) }
+    ensures length_in_bounds { result.len ≤ length result.bytes }
 {
     let bare = EntryParts { caller: 0, ..entry };
     let mut draft = [0u8; LONGEST];

@@ -91,7 +91,7 @@ fn count_tree(image: &mut [u32], entry: EntryParts, tail: usize, fresh: &[u8]) -
 {
     let asked = tree_bytes(entry, tail);
     let bytes = asked.bytes;
-    let end = asked.length;
+    let end = asked.len;
     count_request(image, INVOKE_CODE, &bytes[..end], entry.caller, fresh)
 }
 

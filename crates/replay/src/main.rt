@@ -12,9 +12,10 @@ ghost use Rattle.replay.specs.Fed.{TellsPieces};
 ghost use Rattle.replay.specs.declared.ReplayError.TheVariants.{Unread, Unwritten};
 
 use inspection::feed::feed;
-use inspection::finish::{Told, finish};
+use inspection::finish::{TOLD_MAX, finish};
 use inspection::reader::{IMAGE_BYTES, JOURNAL_MAX, begin};
 use layout::IMAGE_WORDS;
+use layout::bytes::Bytes;
 use reading::{ReadFailed, read_whole};
 use std::io::{Read, Write};
 use std::{fmt, io};
@@ -58,7 +59,7 @@ impl From<io::Error> for ReplayError {
 
 // Feeds the input, and says what is told of it. A piece that is not full is the last; behind a refusal,
 // which stays, and behind the bytes that are used, nothing is read.
-fn take_input<R: Read>(input: &mut R) -> Result<Told, ReadFailed>
+fn take_input<R: Read>(input: &mut R) -> Result<Bytes<TOLD_MAX>, ReadFailed>
     ensures { IfOk result TellsPieces }
 {
     let mut space = [0u8; PIECE];

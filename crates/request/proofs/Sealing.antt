@@ -11,7 +11,7 @@ use Rattle.layout.specs.Words.{bytes4, zeros}
 use Rattle.layout.proofs.Tab.{drop_zeros}
 use Rattle.message.specs.Checksum.{checksum_of}
 use Rattle.making.specs.Made.{answer_in}
-use Rattle.making.specs.declared.Answer.{Answer}
+use Rattle.layout.specs.declared.bytes.Bytes.{Bytes}
 use Rattle.opening.specs.Rules.{answer_of}
 
 abbrev zs : ℕ → List ℕ
@@ -50,5 +50,5 @@ module _ (rest o : List ℕ) (k : ℕ) (room : length rest + 8 ≤ answer_max) (
       ∙ (λ i. sealed_with (bytes4 (checksum_of 0 (covered i)) ++ drop 4 (copied i)) (length rest + 8))
       ∙ (λ i. sealed_with (bytes4 (checksum_of 0 (bytes4 0 ++ rest)) ++ (bytes4 0 ++ (rest ++ replicate (gap i) 0))) (long i))
     where
-      sealed_with : List ℕ → ℕ → Answer
+      sealed_with : List ℕ → ℕ → Bytes answer_max
       sealed_with l n = record { bytes = l; len = n }

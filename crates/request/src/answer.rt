@@ -7,7 +7,8 @@ ghost use Rattle.making.specs.Made.{answer_in, work_with, plain_work};
 ghost use Rattle.opening.specs.Rules.{answer_of};
 
 use layout::ANSWER_MAX;
-use making::{Answer, Values, new_work, no_values};
+use layout::bytes::Bytes;
+use making::{Values, new_work, no_values};
 use packing::four;
 use table::Kind;
 use work::Work;
@@ -21,7 +22,7 @@ fn put_checksum(out: &mut [u8], end: usize)
     out[..4].copy_from_slice(&sum);
 }
 
-fn sealed(rest: &[u8]) -> Answer
+fn sealed(rest: &[u8]) -> Bytes<ANSWER_MAX>
     requires { length rest.now + 8 ≤ answer_max }
     ensures { result ≡ answer_in (answer_of rest.now) }
 {
@@ -29,7 +30,7 @@ fn sealed(rest: &[u8]) -> Answer
     let mut out = [0u8; ANSWER_MAX];
     out[8..end].copy_from_slice(rest);
     put_checksum(&mut out, end);
-    Answer {
+    Bytes {
         bytes: out,
         len: end,
     }

@@ -19,7 +19,7 @@ use Rattle.work.specs.Entries.{finished, answer_given, answer_number, answer_buf
 use Rattle.std.proofs.Common.{Ok}
 use Rattle.work.proofs.Shape.{shaped_answer, finished_shaped}
 use Rattle.opening.specs.Openings.{status_number}
-use Rattle.respond.specs.declared.Response.{Response}
+use Rattle.layout.specs.declared.bytes.Bytes.{Bytes}
 use Rattle.respond.specs.Program.{response_max, response_of, answer_bytes}
 use Rattle.making.proofs.After.{SameAnswer}
 
@@ -27,10 +27,10 @@ abbrev zs : ℕ → List ℕ
 zs n = replicate n 0
 
 -- what `with_result` hands back
-abbrev pub response_with : ℕ → ℕ → List ℕ → Response
+abbrev pub response_with : ℕ → ℕ → List ℕ → Bytes (4 + answer_max)
 response_with number n space = record { len = 4 + n; bytes = bytes4 number ++ drop 4 space }
 
-abbrev response : ℕ → List ℕ → Response
+abbrev response : ℕ → List ℕ → Bytes (4 + answer_max)
 response n bytes = record { len = n; bytes = bytes }
 
 -- a refusal
@@ -77,8 +77,8 @@ pub ready_written : (w : Work) (s : Result ⊤ Refusal) → s ≡ Ok tt → byte
 ready_written w s e = ap (λ (x : Result ⊤ Refusal). bytes4 (status_number x) ++ answer_bytes w x) (sym e)
 
 -- the bytes of a response that count are among its bytes
-pub response_within : (r : Response) (output : List ℕ) → r ≡ response_of output → r.len ≤ length r.bytes
+pub response_within : (r : Bytes (4 + answer_max)) (output : List ℕ) → r ≡ response_of output → r.len ≤ length r.bytes
 unfolding response_of
 response_within r output e =
     let z = zeros (response_max - length output) in
-    omega (arith, ap (λ (x : Response). x.len) e, ap (λ (x : Response). length x.bytes) e, length-append output z)
+    omega (arith, ap (λ (x : Bytes (4 + answer_max)). x.len) e, ap (λ (x : Bytes (4 + answer_max)). length x.bytes) e, length-append output z)

@@ -8,7 +8,7 @@ use Rattle.work.specs.declared.Work.{Work}
 use Rattle.opening.specs.Tasks.{Request, request_of, BootInputs, boot_of}
 use Rattle.opening.specs.Openings.{open_request, status_number, cold_booted}
 use Rattle.opening.specs.declared.Opened.{Opened}
-use Rattle.respond.specs.declared.Response.{Response}
+use Rattle.layout.specs.declared.bytes.Bytes.{Bytes}
 
 -- runtime digest bytes 0x11, manifest digest bytes 0x33 (document 02, §2), secret bytes 0x22
 abbrev pub program_boot : BootInputs
@@ -49,5 +49,5 @@ abbrev pub response_max : ℕ
 response_max = 4 + answer_max
 
 -- an output as the function hands it back: how many bytes, and the bytes in an array whose others are zero
-unfoldable pub response_of : List ℕ → Response
+unfoldable pub response_of : List ℕ → Bytes (4 + answer_max)
 response_of output = record { len = length output; bytes = output ++ zeros (response_max - length output) }

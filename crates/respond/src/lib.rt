@@ -11,6 +11,7 @@ ghost use Rattle.making.specs.Run.{all_stores};
 ghost use Rattle.respond.specs.Program.{answer_bytes, output_of, program_output, response_of};
 
 use crate::run::{cold_image, open};
+use layout::bytes::Bytes;
 use layout::{ANSWER_MAX, IMAGE_WORDS};
 use making::run::run_all;
 use packing::four;
@@ -25,29 +26,22 @@ const RESULT_LEN: usize = 4;
 // The result and the longest answer.
 pub const RESPONSE_MAX: usize = RESULT_LEN + ANSWER_MAX;
 
-// What the program writes: the first `len` bytes; the others are zero. A fixed buffer with its length: no heap.
-#[derive(Clone, Copy)]
-pub struct Response {
-    pub len: usize,
-    pub bytes: [u8; RESPONSE_MAX],
-}
-
 // A response whose answer of `n` bytes is in its place: the result goes in front.
-fn with_result(number: u32, n: usize, space: [u8; RESPONSE_MAX]) -> Response
+fn with_result(number: u32, n: usize, space: [u8; RESPONSE_MAX]) -> Bytes<RESPONSE_MAX>
     requires { n ≤ answer_max }
     ensures { result ≡ record { len = 4 + n; bytes = bytes4 number ++ drop 4 space } }
 {
     let result = four(number);
     let mut out = space;
     out[..RESULT_LEN].copy_from_slice(&result);
-    Response {
-        len: RESULT_LEN + n,
+    Bytes {
         bytes: out,
+        len: RESULT_LEN + n,
     }
 }
 
 // Makes all stores of a work at an image, and takes the answer.
-fn answered(work: Work, image: [u32; IMAGE_WORDS]) -> Response
+fn answered(work: Work, image: [u32; IMAGE_WORDS]) -> Bytes<RESPONSE_MAX>
     requires { finished (all_stores work image).work ≡ true }
     ensures { result ≡ response_of (bytes4 0 ++ answer_bytes work (Ok tt)) }
 {
@@ -59,7 +53,7 @@ fn answered(work: Work, image: [u32; IMAGE_WORDS]) -> Response
 }
 
 // Opens the request of an input of which all bytes are used, and answers it.
-fn respond_to(input: &[u8]) -> Response
+fn respond_to(input: &[u8]) -> Bytes<RESPONSE_MAX>
     ensures { result ≡ response_of (output_of input.now) }
 {
     let image = cold_image();
@@ -71,7 +65,7 @@ fn respond_to(input: &[u8]) -> Response
 }
 
 // What the program writes for the bytes on its standard input, however many.
-pub fn respond(input: &[u8]) -> Response
+pub fn respond(input: &[u8]) -> Bytes<RESPONSE_MAX>
     ensures { result ≡ response_of (program_output input.now) }
 {
     if INPUT_MAX < input.len() {
