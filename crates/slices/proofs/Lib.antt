@@ -1,3 +1,3 @@
 -- Laws that belong to no one function.
 pub mod Numbers
-pub mod Parts
+pub mod Filled

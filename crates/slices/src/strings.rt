@@ -3,17 +3,13 @@
 ghost use Rattle.std.specs.Prelude.{◌≡◌, ◌++◌, ◌+◌, length};
 ghost use Rattle.layout.specs.Words.{part};
 
+use crate::parts::part_of;
+
 // The N bytes of a slice from an index on.
 pub fn bytes_of<const N: usize>(s: &[u8], at: usize) -> [u8; N]
     ensures { result ≡ part N s.now at }
 {
-    let from = s.get(at..).unwrap_or(&[]);
-    if let Some(all) = from.first_chunk() {
-        return *all;
-    }
-    let mut out = [0u8; N];
-    out[..from.len()].copy_from_slice(from);
-    out
+    part_of(s, at, 0)
 }
 
 // Two byte strings, one after the other, and zeros behind them.

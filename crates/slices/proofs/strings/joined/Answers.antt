@@ -1,6 +1,6 @@
 -- Both strings, as much of each as there is room for; where the lengths fit, all of both.
 use Rattle.std.proofs.Common.{◌∙◌, ◌++◌, length-append}
-use Rattle.slices.proofs.Parts.{two_copied, part_whole}
+use Rattle.slices.proofs.Filled.{two_copied, part_whole}
 use Rattle.slices.proofs.strings.joined.Goals as goal
 
 pub returns : goal.returns

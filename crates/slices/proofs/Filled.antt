@@ -1,5 +1,6 @@
 -- A part of a list as what is there of it, and zeros behind. Assumes nothing.
-use Rattle.std.proofs.Common.{◌≡◌, ◌+◌, ◌-◌, ◌∙◌, ℕ, List, [], ◌++◌, length, take, drop, replicate, sym, ap, ap₂, append-nil, zero-add, take_all, drop_of_length-le, get_or-drop, length-drop, length-take-le, length-append, take_at, drop_at, append_assoc, min, arith, unwrap_or, Option, Some, None, Bor}
+use lib.ListN.{length-replicate, replicate-append-replicate}
+use Rattle.std.proofs.Common.{◌≡◌, ◌≤◌, ◌+◌, ◌-◌, ◌∙◌, ℕ, List, [], ◌++◌, length, take, drop, replicate, sym, ap, ap₂, append-nil, zero-add, take_all, drop_of_length-le, get_or-drop, length-drop, length-take-le, length-append, take_at, drop_at, append_assoc, min, arith, unwrap_or, Option, Some, None, Bor}
 use native.Mathlib.Decide.{dec_le}
 use Rattle.std.specs.Slice.{IsGetRangeResult}
 use Rattle.layout.specs.Words.{part, zeros}
@@ -22,14 +23,30 @@ unfolding part
 part_drop n at l = tab_same n _ _ (λ k. rw zero-add (get_or-drop at l k 0))
 
 -- what `get` has of a list from an index on
-pub part_got : (n at : ℕ) (l : List ℕ) (r : Option (Bor (List ℕ))) (e x : Bor (List ℕ)) → x ≡ unwrap_or r e → e.now ≡ [] → IsGetRangeResult l at (length l) r
-    → part n l at ≡ take n x.now ++ zeros (n - length x.now)
-part_got n at l r e x is none got =
-    sym (part_drop n at l) ∙ ap (λ y. part n y 0) (sym (ap (λ (y : Bor (List ℕ)). y.now) is ∙ rest r got)) ∙ part_filled n x.now
+pub got : {A : Type 0} (at : ℕ) (l : List A) (r : Option (Bor (List A))) (e x : Bor (List A)) → x ≡ unwrap_or r e → e.now ≡ [] → IsGetRangeResult l at (length l) r
+    → x.now ≡ drop at l
+got {A} at l r e x is none result = ap (λ (y : Bor (List A)). y.now) is ∙ rest r result
   where
-    rest : (r : Option (Bor (List ℕ))) → IsGetRangeResult l at (length l) r → (unwrap_or r e).now ≡ drop at l
+    rest : (r : Option (Bor (List A))) → IsGetRangeResult l at (length l) r → (unwrap_or r e).now ≡ drop at l
     rest None g = none ∙ sym (drop_of_length-le l {i = at} (omega (arith, g.0)))
     rest (Some x) g = g.0.2 ∙ take_all (length l - at) (drop at l) (omega (arith, length-drop at l))
+
+-- the first n of a list, where it has them
+pub all_there : {A : Type 0} (n : ℕ) (d : A) (l x : List A) → n ≤ length l → x ≡ take n l → x ≡ take n l ++ replicate (n - length l) d
+all_there n d l x h e =
+    let none : 0 ≡ n - length l = omega (arith, h) in
+    e ∙ sym (append-nil (take n l)) ∙ ap (λ k. take n l ++ replicate k d) none
+
+-- the back of a run of one element
+pub drop_run : {A : Type 0} (k n : ℕ) (d : A) → k ≤ n → drop k (replicate n d) ≡ replicate (n - k) d
+drop_run k n d h =
+    ap (λ i. drop k (replicate i d)) (omega (arith, h)) ∙ ap (drop k) (sym (replicate-append-replicate k (n - k) d))
+    ∙ drop_at (replicate k d) (replicate (n - k) d) k (length-replicate k d)
+
+-- a shorter list, copied over a run of one element
+pub some_there : {A : Type 0} (n : ℕ) (d : A) (l x : List A) → length l ≤ n → x ≡ l
+    → x ++ drop (length l) (replicate n d) ≡ take n l ++ replicate (n - length l) d
+some_there n d l x h e = ap₂ (λ y z. y ++ z) (e ∙ sym (take_all n l h)) (drop_run (length l) n d h)
 
 -- the front of two lists, one after the other: as much of each as there is room for
 two_fronts : (n i j : ℕ) (a b : List ℕ) → i ≡ min (length a) n → j ≡ min (length b) (n - i) → take n (a ++ b) ≡ take i a ++ take j b
