@@ -6,7 +6,7 @@ ghost use Rattle.sha384.specs.Entries.{longest, digest_of, extended, concluded};
 
 use crate::constants::{K, initial};
 use crate::errors::DigestError;
-use crate::padding::{conclude, put_word};
+use crate::padding::conclude;
 use sha_block::blocks::absorb;
 
 // The longest message, in bytes.
@@ -16,13 +16,9 @@ pub const LONGEST: usize = 65535;
 fn first_six(h: [u64; 8]) -> [u8; 48]
     ensures { result ≡ first_six (hash_value h) }
 {
+    let bytes = h.map(u64::to_be_bytes);
     let mut out = [0u8; 48];
-    put_word(&mut out, 0, h[0]);
-    put_word(&mut out, 8, h[1]);
-    put_word(&mut out, 16, h[2]);
-    put_word(&mut out, 24, h[3]);
-    put_word(&mut out, 32, h[4]);
-    put_word(&mut out, 40, h[5]);
+    out.copy_from_slice(&bytes.as_flattened()[..48]);
     out
 }
 
