@@ -1,12 +1,12 @@
 -- Stores and copies into buffers of a known length. Assumes nothing.
 use mathlib.Core.Path.{◌≡◌, refl, sym, ap, ap₂, ◌∙◌}
-use mathlib.Core.List.{List, [], ◌∷◌, ◌++◌, append_assoc, append-nil}
+use mathlib.Core.List.{List, [], ◌∷◌, ◌++◌, append_assoc}
 use Prim.Native.Nat.{ℕ, zero, suc, ◌<◌, ◌+◌, ◌/◌, ◌%◌, ◌^◌, ◌≤◌}
 use native.Mathlib.Nat.{div-one}
 use Rattle.std.specs.Int.{w64, to_be_bytes}
 use native.Mathlib.Omega.{arith}
-use lib.ListN.{length, take, drop, get_or, length-drop, drop_of_length-le}
-use lib.Seq.{ext_get_or, sets, sets-eq, take_at, drop_at, drop-drop}
+use lib.ListN.{length, take, drop, get_or}
+use lib.Seq.{ext_get_or, sets, sets-eq, drop-drop}
 use borrow.Rule.Slice.PartMut.{post_of, put_mid}
 use Rattle.sha384.specs.Sha384.{bytes_of, first_six}
 use Rattle.sha_block.specs.Blocks.{hash_value}
@@ -47,11 +47,3 @@ six_of_eight h ys long each = ap (λ (l : List (List ℕ)). take 48 (flat_map (�
     word (suc (suc (suc (suc (suc (suc zero)))))) b = refl
     word (suc (suc (suc (suc (suc (suc (suc zero))))))) b = refl
     word (suc (suc (suc (suc (suc (suc (suc (suc i)))))))) b = absurd (omega (arith, b))
-
--- two values, copied one behind the other into a buffer that they fill
-pub two_parts : (m n : ℕ) (x d z o1 o2 : List ℕ) → length x ≡ m → length z ≡ m + n → o1 ≡ x → o2 ≡ d → put_mid m n (put_mid 0 m z o1) o2 ≡ x ++ d
-two_parts m n x d z o1 o2 hx hz e1 e2 =
-    let first : put_mid 0 m z o1 ≡ x ++ drop m z = ap (λ (a : List ℕ). a ++ drop m z) e1 in
-    let none : drop n (drop m (x ++ drop m z)) ≡ [] =
-    ap (drop n) (drop_at x (drop m z) m hx) ∙ drop_of_length-le (drop m z) {i = n} (omega (arith, length-drop m z)) in
-    ap₂ (put_mid m n) first e2 ∙ ap₂ (λ (a b : List ℕ). a ++ (d ++ b)) (take_at x (drop m z) m hx) none ∙ ap (λ (b : List ℕ). x ++ b) (append-nil d)

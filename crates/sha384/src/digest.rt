@@ -8,6 +8,7 @@ use crate::constants::{K, initial};
 use crate::errors::DigestError;
 use crate::padding::conclude;
 use sha_block::blocks::absorb;
+use slices::strings::joined;
 
 // The longest message, in bytes.
 pub const LONGEST: usize = 65535;
@@ -56,20 +57,10 @@ pub fn conclude_digest(h: [u64; 8], last: [u8; 128], total: u32) -> [u8; 48]
     first_six(words)
 }
 
-// Two values of 48 bytes, one after the other.
-fn joined(x: [u8; 48], d: [u8; 48]) -> [u8; 96]
-    ensures { result ≡ x ++ d }
-{
-    let mut out = [0u8; 96];
-    out[..48].copy_from_slice(&x);
-    out[48..].copy_from_slice(&d);
-    out
-}
-
 // x extended by d.
 pub fn extend(x: [u8; 48], d: [u8; 48]) -> [u8; 48]
     ensures { result ≡ extended x d }
 {
-    let message = joined(x, d);
+    let message: [u8; 96] = joined(&x, &d);
     hash(&message)
 }
