@@ -1,4 +1,4 @@
-// The numbers handed back, by name; success is 0. The same names stand in specs/Refusals.antt.
+// Why an entry is refused and why a command is declined, each reason with its number. Success is 0.
 ghost use Rattle.std.specs.Prelude.{◌≡◌};
 ghost use Rattle.layout.specs.Numbers.{refusal_number};
 ghost use Rattle.layout.specs.Refusals.{decline_number};

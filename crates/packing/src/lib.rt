@@ -7,6 +7,8 @@ ghost use Rattle.layout.specs.Sizes.{register_words};
 ghost use Rattle.layout.specs.Words.{part, byte_of, bytes4, bytes48};
 
 use layout::REGISTER_WORDS;
+use slices::parts::part_of;
+use slices::strings::bytes_of;
 
 pub fn word(image: &[u32], at: usize) -> u32
     ensures { result ≡ get_or image.now at 0 }
@@ -19,13 +21,6 @@ pub fn word_after(image: &[u32], at: usize, k: usize) -> u32
     ensures { result ≡ get_or image.now (at + k) 0 }
 {
     at.checked_add(k).map_or(0, |i| word(image, i))
-}
-
-// The words of a register or a measurement, from an index on.
-fn part12(image: &[u32], at: usize) -> [u32; REGISTER_WORDS]
-    ensures { result ≡ part register_words image.now at }
-{
-    std::array::from_fn(|k| word_after(image, at, k))
 }
 
 // Byte j of a word, the lowest first; from byte 4 on 0.
@@ -42,16 +37,10 @@ pub fn four(n: u32) -> [u8; 4]
     n.to_le_bytes()
 }
 
-// The 48 bytes of twelve words.
-fn unpack(ws: [u32; REGISTER_WORDS]) -> [u8; 48]
-    ensures { result ≡ bytes48 ws }
-{
-    std::array::from_fn(|k| byte_of(ws[k / 4], k % 4))
-}
-
 // The 48 bytes of twelve words of an image.
 pub fn bytes_in(image: &[u32], at: usize) -> [u8; 48]
     ensures { result ≡ bytes48 (part register_words image.now at) }
 {
-    unpack(part12(image, at))
+    let words: [u32; REGISTER_WORDS] = part_of(image, at, 0);
+    bytes_of(words.map(four).as_flattened(), 0)
 }

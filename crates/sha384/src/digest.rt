@@ -6,8 +6,9 @@ ghost use Rattle.sha384.specs.Entries.{longest, digest_of, extended, concluded};
 
 use crate::constants::{K, initial};
 use crate::errors::DigestError;
-use crate::padding::{conclude, put_word};
+use crate::padding::conclude;
 use sha_block::blocks::absorb;
+use slices::strings::joined;
 
 // The longest message, in bytes.
 pub const LONGEST: usize = 65535;
@@ -16,13 +17,9 @@ pub const LONGEST: usize = 65535;
 fn first_six(h: [u64; 8]) -> [u8; 48]
     ensures { result ≡ first_six (hash_value h) }
 {
+    let bytes = h.map(u64::to_be_bytes);
     let mut out = [0u8; 48];
-    put_word(&mut out, 0, h[0]);
-    put_word(&mut out, 8, h[1]);
-    put_word(&mut out, 16, h[2]);
-    put_word(&mut out, 24, h[3]);
-    put_word(&mut out, 32, h[4]);
-    put_word(&mut out, 40, h[5]);
+    out.copy_from_slice(&bytes.as_flattened()[..48]);
     out
 }
 
@@ -60,20 +57,10 @@ pub fn conclude_digest(h: [u64; 8], last: [u8; 128], total: u32) -> [u8; 48]
     first_six(words)
 }
 
-// Two values of 48 bytes, one after the other.
-fn joined(x: [u8; 48], d: [u8; 48]) -> [u8; 96]
-    ensures { result ≡ x ++ d }
-{
-    let mut out = [0u8; 96];
-    out[..48].copy_from_slice(&x);
-    out[48..].copy_from_slice(&d);
-    out
-}
-
 // x extended by d.
 pub fn extend(x: [u8; 48], d: [u8; 48]) -> [u8; 48]
     ensures { result ≡ extended x d }
 {
-    let message = joined(x, d);
+    let message: [u8; 96] = joined(&x, &d);
     hash(&message)
 }

@@ -1,4 +1,4 @@
-// The end of a padded message (FIPS 180-4, section 5.1.2), and the bytes of words.
+// The end of a padded message (FIPS 180-4, section 5.1.2).
 ghost use Rattle.std.specs.Prelude.{◌≡◌, ◌+◌, ◌/◌, ◌%◌, ◌^◌, ◌≤◌, ◌<◌, ◌++◌, length};
 ghost use Rattle.std.proofs.lemmas.List.Edits.{sets};
 ghost use Rattle.sha_block.specs.Blocks.{hashed, hash_words, hash_value};
@@ -7,7 +7,7 @@ ghost use Rattle.sha384.specs.Sha384.{bytes_of, padding};
 use sha_block::blocks::absorb;
 
 // Writes the eight bytes of a word, the highest first.
-pub(crate) fn put_word(out: &mut [u8], at: usize, x: u64)
+fn put_word(out: &mut [u8], at: usize, x: u64)
     requires { at + 8 ≤ length out.old }
     ensures { out.new ≡ sets out.old at (bytes_of 8 x) }
 {

@@ -3,4 +3,5 @@
 #![tactic(auto)]
 
 pub mod little_endian;
+pub mod parts;
 pub mod strings;

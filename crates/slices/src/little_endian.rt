@@ -1,6 +1,6 @@
 // Little-endian numbers in a byte slice, and 48 bytes as twelve words, at any index of a slice of any
 // length: a byte past its end is 0.
-ghost use Rattle.std.specs.Prelude.{◌≡◌, ◌+◌, ◌*◌, ◌<◌, get_or};
+ghost use Rattle.std.specs.Prelude.{◌≡◌, ◌+◌, get_or};
 ghost use Rattle.layout.specs.Sizes.{register_words};
 ghost use Rattle.layout.specs.Words.{le16, le32, le64, words_at};
 
@@ -34,17 +34,10 @@ pub fn read64(s: &[u8], at: usize) -> u64
     u64::from_le_bytes(bytes_of(s, at))
 }
 
-// Word k of the words from an index on.
-fn word_of(s: &[u8], at: usize, k: usize) -> u32
-    requires { k < register_words }
-    ensures { result ≡ le32 s.now (at + 4 * k) }
-{
-    at.checked_add(4 * k).map_or(0, |i| read32(s, i))
-}
-
 // The twelve words of the 48 bytes from an index on.
 pub fn pack(s: &[u8], at: usize) -> [u32; REGISTER_WORDS]
     ensures { result ≡ words_at register_words s.now at }
 {
-    std::array::from_fn(|k| word_of(s, at, k))
+    let bytes: [u8; 48] = bytes_of(s, at);
+    std::array::from_fn(|k| read32(&bytes, 4 * k))
 }

@@ -1,9 +1,9 @@
--- Each element is its call's.
-use Rattle.std.proofs.Common.{rules}
-use Rattle.layout.specs.Words.{part}
-use Rattle.layout.proofs.Tab.{from_fn_tab}
+-- A part of bytes, with zeros past the end.
+use Rattle.std.proofs.Common.{◌∙◌, drop, sym}
+use Rattle.layout.specs.Words.{zeros}
+use Rattle.slices.proofs.Filled.{part_filled, part_drop}
 use Rattle.slices.proofs.strings.bytes_of.Goals as goal
 
 pub returns : goal.returns
-unfolding part
-returns g c = from_fn_tab _ _ _ _ _ (λ i y q l h. search rules) c.from_fn.ensures.items
+unfolding zeros
+returns g c = c.part_of.ensures ∙ sym (part_filled g.row.N (drop c.args.at c.args.s.now)) ∙ part_drop g.row.N c.args.at c.args.s.now
