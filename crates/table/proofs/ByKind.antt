@@ -78,29 +78,24 @@ number_row (Destroy count) r j n s = by_test (leb count node_count)
     by_test true = refl
     by_test false = refl
 
--- ---- what each row of the table may take for granted of its store
+-- ---- what each row of the table may take for granted of its indices
 
 -- the two nodes of a stash or of a child that replaces its parent
 abbrev Both : StashAt → Type 0
 Both s = (s.node < node_count) × (s.holder < node_count)
 
--- words of a node, as many as `words` from its word `from` on
-abbrev Piece : (i from words k : ℕ) → Type 0
-Piece i from words k = (i < node_count) × ((from + words ≤ node_words) × (k < 1 + (words + 1)))
-
-abbrev pub Within : Kind → ℕ → (node : List ℕ) → Type 0
-Within Nothing k node = ⊥
-Within Disabling k node = k < number_of Disabling
-Within (Stash s) k node = (s.node < node_count) × ((s.holder < node_count) × (k < number_of (Stash s)))
-Within (Update root) k node = (root < node_count) × (k < number_of (Update root))
-Within ColdBoot k node = k < number_of ColdBoot
-Within (Extension r) k node = (r ≤ extend_last) × (k < number_of (Extension r))
-Within (Derive i) k node = Piece i 0 node_words k
-Within (Replace s) k node = (s.node < node_count) × ((s.holder < node_count) × (k < number_of (Replace s)))
-Within (Extend i) k node = Piece i current_at (2 * register_words) k
-Within (Rotate i) k node = Piece i handle_at handle_words k
-Within (Destroy count) k node =
-    (count ≤ node_count) × ((all_below count (λ j. ltb (get_or node j 0) node_count) ≡ true) × (k < number_of (Destroy count)))
+abbrev pub Within : Kind → (node : List ℕ) → Type 0
+Within Nothing node = Unit {0}
+Within Disabling node = Unit {0}
+Within (Stash s) node = Both s
+Within (Update root) node = root < node_count
+Within ColdBoot node = Unit {0}
+Within (Extension r) node = r ≤ extend_last
+Within (Derive i) node = i < node_count
+Within (Replace s) node = Both s
+Within (Extend i) node = i < node_count
+Within (Rotate i) node = i < node_count
+Within (Destroy count) node = (count ≤ node_count) × (all_below count (λ j. ltb (get_or node j 0) node_count) ≡ true)
 
 both : (s : StashAt) → (ltb s.node node_count && ltb s.holder node_count) ≡ true → Both s
 both s h = (
@@ -113,20 +108,20 @@ pub destroy_count : (count : ℕ) (node : List ℕ) → index_ok (Destroy count)
 unfolding index_ok
 destroy_count count node i = leb-true count node_count (and_left (leb count node_count) (all_below count (λ j. ltb (get_or node j 0) node_count)) i)
 
-pub within : (kind : Kind) (k : ℕ) (node : List ℕ) → index_ok kind node ≡ true → k < number_of kind → Within kind k node
-unfolding index_ok number_of
-within Nothing k node i h = omega arith
-within Disabling k node i h = h
-within (Stash s) k node i h = ((both s i).0, ((both s i).1, h))
-within (Update root) k node i h = (ltb-true root node_count i, h)
-within ColdBoot k node i h = h
-within (Extension r) k node i h = (extendable_to r i, h)
-within (Derive x) k node i h = (ltb-true x node_count i, (omega arith, h))
-within (Replace s) k node i h = ((both s i).0, ((both s i).1, h))
-within (Extend x) k node i h = (ltb-true x node_count i, (omega arith, h))
-within (Rotate x) k node i h = (ltb-true x node_count i, (omega arith, h))
-within (Destroy count) k node i h =
-    (destroy_count count node i, (and_right (leb count node_count) (all_below count (λ j. ltb (get_or node j 0) node_count)) i, h))
+pub within : (kind : Kind) (node : List ℕ) → index_ok kind node ≡ true → Within kind node
+unfolding index_ok
+within Nothing node i = tt
+within Disabling node i = tt
+within (Stash s) node i = both s i
+within (Update root) node i = ltb-true root node_count i
+within ColdBoot node i = tt
+within (Extension r) node i = extendable_to r i
+within (Derive x) node i = ltb-true x node_count i
+within (Replace s) node i = both s i
+within (Extend x) node i = ltb-true x node_count i
+within (Rotate x) node i = ltb-true x node_count i
+within (Destroy count) node i =
+    (destroy_count count node i, and_right (leb count node_count) (all_below count (λ j. ltb (get_or node j 0) node_count)) i)
 
 -- ---- mark 0 first, mark 1 last, and no store of the mark between them
 

@@ -1,4 +1,5 @@
 -- The store table (document 01, "Work, one word at a time"): for each kind of work, runs of stores in order. Assumes nothing.
+use Rattle.std.specs.Option.{unwrap_or}
 use Rattle.std.specs.Prelude.{ℕ, ◌+◌, ◌-◌, ◌*◌, ◌/◌, ◌%◌, Bool, true, cond, ◌&&◌, List, [], ◌∷◌, get_or, leb, ltb}
 use Rattle.layout.specs.Sizes.{node_count, node_words, register_count, register_words, mark_at, attestation_at, secret_at, register_at, node_at, current_register, journey_register, stash_register, extendable, handle_at, handle_words, current_at, cumulative_at, retired_word}
 use Rattle.layout.specs.Below.{all_below}
@@ -6,6 +7,7 @@ use Rattle.table.specs.declared.Kind.{Kind}
 use Rattle.table.specs.declared.Kind.TheVariants.{Nothing, Disabling, Stash, Update, ColdBoot, Extension, Derive, Replace, Extend, Rotate, Destroy}
 use Rattle.table.specs.declared.StashAt.{StashAt}
 use Rattle.table.specs.declared.Put.{Put}
+use Rattle.table.specs.declared.row.Row.{Row}
 
 abbrev pub put : ℕ → ℕ → Put
 put a v = record { address = a; value = v }
@@ -142,3 +144,9 @@ index_ok (Destroy count) node = leb count node_count && all_below count (λ j. l
 unfoldable pub store_at : Kind → ℕ → List ℕ → List ℕ → List ℕ → List ℕ → Put
 store_at kind k register journey node secret =
     cond (index_ok kind node && ltb k (number_of kind)) (put_from 0 (runs_for kind register journey node secret) k) (put 0 0)
+
+-- ---- of the private functions
+
+-- what a row that is gone through gives with the runs to come
+abbrev pub sought : Row → List Run → Put
+sought r rest = unwrap_or r.found (put_from 0 rest r.before)

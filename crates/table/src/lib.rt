@@ -4,6 +4,7 @@
 
 pub mod coding;
 mod puts;
+mod row;
 
 ghost use Rattle.std.specs.Prelude.{◌≡◌, true, ◌<◌, ltb, get_or};
 ghost use Rattle.layout.specs.Below.{all_below};
@@ -119,10 +120,9 @@ pub fn index_ok(kind: Kind, node: &[u32]) -> bool
     }
 }
 
-// Store k of a kind of work that has it.
+// Store k of a kind of work; past its last store, one that nobody makes.
 fn row_put(kind: Kind, k: usize, words: &Prepared) -> Put
     requires node_value { index_ok kind words.now.node.now ≡ true }
-    requires k_bound { k < number_of kind }
     ensures value { result ≡ put_from 0 (runs_for kind words.now.register.now words.now.journey.now words.now.node.now words.now.secret.now) k }
     ensures address_lt_image_words { result.address < image_words }
 {

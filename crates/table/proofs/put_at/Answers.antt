@@ -11,7 +11,7 @@ use Rattle.table.proofs.put_at.Goals.{else-index_ok-via-then-index_ok+else-k-num
 
 pub row_put-requires : goal.row_put-requires
 row_put-requires c =
-    record { node_value = told c.index_ok.ensures c.if-index_ok.true; k_bound = omega (arith, c.number.ensures) }
+    record { node_value = told c.index_ok.ensures c.if-index_ok.true }
 
 pub returns-then-k-number : goal.returns-then-k-number
 returns-then-k-number c =

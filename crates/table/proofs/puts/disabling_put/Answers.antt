@@ -1,16 +1,16 @@
--- Mark, attestation, twelve zeros, mark: one exit for each run of the definition.
-use Rattle.layout.proofs.Cases.{cases}
-use borrow.Author.Rules.{rules}
+-- What the rest of the row gives, field by field from its end.
+use mathlib.Core.Path.{◌∙◌}
+use lib.ListN.{drop}
+use Rattle.table.specs.Table.{disabling_runs}
 use Rattle.table.proofs.puts.disabling_put.Goals as goal
 
-pub returns-then-k-lt-MARK_END : goal.returns-then-k-lt-MARK_END
-returns-then-k-lt-MARK_END c = record { value = search cases; address_lt_image_words = search rules }
-
-pub returns-then-k-lt-ATTESTATION_END : goal.returns-then-k-lt-ATTESTATION_END
-returns-then-k-lt-ATTESTATION_END c = record { value = search cases; address_lt_image_words = search rules }
-
-pub returns-then-k-lt-DISABLING_SECRET_END : goal.returns-then-k-lt-DISABLING_SECRET_END
-returns-then-k-lt-DISABLING_SECRET_END c = record { value = search cases; address_lt_image_words = search rules }
-
-pub returns : goal.returns
-returns c = record { value = search cases; address_lt_image_words = search rules }
+pub returns-clause-value : goal.returns-clause-value
+returns-clause-value c =
+    let a = c.args in
+    let row = disabling_runs in
+    c.put.ensures.value
+    ∙ c.one-3.ensures (drop 4 row)
+    ∙ c.fill.ensures (drop 3 row)
+    ∙ c.one-2.ensures (drop 2 row)
+    ∙ c.one.ensures (drop 1 row)
+    ∙ c.new.ensures row

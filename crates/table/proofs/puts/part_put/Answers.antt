@@ -1,18 +1,15 @@
--- Mark, words of one node, mark: one exit for each run of the definition. Assumes nothing.
-use Prim.Native.Nat.{◌+◌}
-use native.Mathlib.Omega.{arith}
-use borrow.Author.Tests.{lt-ltb, le-ltb}
-use borrow.Author.Rules.{rules}
+-- What the rest of the row gives, field by field from its end.
+use mathlib.Core.Path.{◌∙◌}
+use lib.ListN.{drop}
+use Rattle.table.specs.Table.{part_runs}
 use Rattle.table.proofs.puts.part_put.Goals as goal
 
-pub returns-then-k-lt-MARK_END : goal.returns-then-k-lt-MARK_END
-returns-then-k-lt-MARK_END c = let k = c.args.k in record { value = rw (lt-ltb k 1 (omega arith)); address_lt_image_words = search rules }
-
-pub returns-then-k-words : goal.returns-then-k-words
-returns-then-k-words c =
+pub returns-clause-value : goal.returns-clause-value
+returns-clause-value c =
     let a = c.args in
-    record { value = rw (le-ltb a.k 1 (omega arith), lt-ltb a.k (1 + a.words) (omega arith), ← c.word.ensures); address_lt_image_words = search rules }
-
-pub returns : goal.returns
-returns c =
-    let a = c.args in record { value = rw (le-ltb a.k 1 (omega arith), le-ltb a.k (1 + a.words) (omega arith), lt-ltb a.k (1 + a.words + 1) (omega arith)); address_lt_image_words = search rules }
+    let row = part_runs a.i a.from a.words a.node.now in
+    c.put.ensures.value
+    ∙ c.one-2.ensures (drop 3 row)
+    ∙ c.part.ensures (drop 2 row)
+    ∙ c.one.ensures (drop 1 row)
+    ∙ c.new.ensures row

@@ -1,22 +1,16 @@
--- Mark, the new node, the parent's handle, mark: one exit for each run of the definition. Assumes nothing.
-use Prim.Native.Nat.{◌+◌}
-use native.Mathlib.Omega.{arith}
-use borrow.Author.Tests.{lt-ltb, le-ltb}
-use Rattle.layout.specs.Sizes.{node_words}
-use Rattle.layout.proofs.Cases.{cases}
-use borrow.Author.Rules.{rules}
+-- What the rest of the row gives, field by field from its end.
+use mathlib.Core.Path.{◌∙◌}
+use lib.ListN.{drop}
+use Rattle.table.specs.Table.{replace_runs}
 use Rattle.table.proofs.puts.replace_put.Goals as goal
 
-pub returns-then-k-lt-MARK_END : goal.returns-then-k-lt-MARK_END
-returns-then-k-lt-MARK_END c = let k = c.args.k in record { value = rw (lt-ltb k 1 (omega arith)); address_lt_image_words = search rules }
-
-pub returns-then-k-lt-REPLACE_NODE_END : goal.returns-then-k-lt-REPLACE_NODE_END
-returns-then-k-lt-REPLACE_NODE_END c =
-    let k = c.args.k in
-    record { value = rw (le-ltb k 1 (omega arith), lt-ltb k (1 + node_words) (omega arith), ← c.word.ensures); address_lt_image_words = search rules }
-
-pub returns-then-k-lt-REPLACE_HANDLE_END : goal.returns-then-k-lt-REPLACE_HANDLE_END
-returns-then-k-lt-REPLACE_HANDLE_END c = record { value = search cases; address_lt_image_words = search rules }
-
-pub returns : goal.returns
-returns c = record { value = search cases; address_lt_image_words = search rules }
+pub returns-clause-value : goal.returns-clause-value
+returns-clause-value c =
+    let a = c.args in
+    let row = replace_runs a.at a.node.now in
+    c.put.ensures.value
+    ∙ c.one-2.ensures (drop 4 row)
+    ∙ rw c.node_at-2.ensures at (c.fill.ensures (drop 3 row))
+    ∙ rw c.node_at.ensures at (c.copy.ensures (drop 2 row))
+    ∙ c.one.ensures (drop 1 row)
+    ∙ c.new.ensures row

@@ -1,52 +1,17 @@
--- `stash_put` meets its contract: the tests on k pass over the runs before k's and stop at its own, one `rw` for each. Assumes nothing.
-use Prim.Native.Nat.{◌+◌}
-use native.Mathlib.Omega.{arith}
-use borrow.Author.Tests.{lt-ltb, le-ltb}
-use Rattle.layout.specs.Sizes.{register_words, node_words, handle_words}
-use borrow.Author.Rules.{rules}
+-- What the rest of the row gives, field by field from its end.
+use mathlib.Core.Path.{◌∙◌}
+use lib.ListN.{drop}
+use Rattle.table.specs.Table.{stash_runs}
 use Rattle.table.proofs.puts.stash_put.Goals as goal
 
-pub returns-then-k-lt-MARK_END : goal.returns-then-k-lt-MARK_END
-returns-then-k-lt-MARK_END c = let k = c.args.k in record { value = rw (lt-ltb k 1 (omega arith)); address_lt_image_words = search rules }
-
-pub returns-then-k-lt-STASH_REGISTER_END : goal.returns-then-k-lt-STASH_REGISTER_END
-returns-then-k-lt-STASH_REGISTER_END c =
-    let k = c.args.k in
-    record { value = rw (le-ltb k 1 (omega arith), lt-ltb k (1 + register_words) (omega arith), ← c.word.ensures); address_lt_image_words = search rules }
-
-pub returns-then-k-lt-STASH_NODE_END : goal.returns-then-k-lt-STASH_NODE_END
-returns-then-k-lt-STASH_NODE_END c =
-    let k = c.args.k in record {
-      value = rw (
-        le-ltb k 1 (omega arith),
-        le-ltb k (1 + register_words) (omega arith),
-        lt-ltb k (1 + register_words + node_words) (omega arith),
-        ← c.word-then-k-lt-STASH_NODE_END.ensures,
-      );
-      address_lt_image_words = search rules;
-    }
-
-pub returns-then-k-lt-STASH_HANDLE_END : goal.returns-then-k-lt-STASH_HANDLE_END
-returns-then-k-lt-STASH_HANDLE_END c =
-    let k = c.args.k in record {
-      value = rw (
-        le-ltb k 1 (omega arith),
-        le-ltb k (1 + register_words) (omega arith),
-        le-ltb k (1 + register_words + node_words) (omega arith),
-        lt-ltb k (1 + register_words + node_words + handle_words) (omega arith),
-      );
-      address_lt_image_words = search rules;
-    }
-
-pub returns : goal.returns
-returns c =
-    let k = c.args.k in record {
-      value = rw (
-        le-ltb k 1 (omega arith),
-        le-ltb k (1 + register_words) (omega arith),
-        le-ltb k (1 + register_words + node_words) (omega arith),
-        le-ltb k (1 + register_words + node_words + handle_words) (omega arith),
-        lt-ltb k (2 + register_words + node_words + handle_words) (omega arith),
-      );
-      address_lt_image_words = search rules;
-    }
+pub returns-clause-value : goal.returns-clause-value
+returns-clause-value c =
+    let a = c.args in
+    let row = stash_runs a.at a.register.now a.node.now in
+    c.put.ensures.value
+    ∙ c.one-2.ensures (drop 5 row)
+    ∙ rw c.node_at-2.ensures at (c.fill.ensures (drop 4 row))
+    ∙ rw c.node_at.ensures at (c.copy-2.ensures (drop 3 row))
+    ∙ c.copy.ensures (drop 2 row)
+    ∙ c.one.ensures (drop 1 row)
+    ∙ c.new.ensures row
