@@ -79,6 +79,7 @@ fn destroy_ground(image: &[u32], node: usize) -> Result<(), Decline>
 }
 
 // The data first, where a derive's retain is 1 or 0, then the handle and the caller, then what the command asks.
+#[tactic(auto, using(crate::proofs::Parted::by_handle, crate::proofs::Parted::by_command, crate::proofs::Parted::not_accepted), unfolding(crate::specs::Ground::ground_of, orders::specs::Told::command_from))]
 pub fn ground(image: &[u32], order: Order, fresh: &[u8], caller: u32) -> Result<(), Decline>
     ensures { dpe_result result ≡ ground_of image.now order fresh.now caller }
 {
