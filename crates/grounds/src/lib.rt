@@ -85,8 +85,7 @@ pub fn ground(image: &[u32], order: Order, fresh: &[u8], caller: u32) -> Result<
 {
     match order {
         Order::Derive(fields) => {
-            let retain = fields.retain;
-            if 1 < retain {
+            if 1 < fields.retain {
                 return Err(Decline::Malformed);
             }
             named(image, fields.handle, caller)?;

@@ -3,7 +3,7 @@ use Prim.Native.Nat.{ℕ, suc, ◌-◌, ◌≤◌, ◌<◌}
 use mathlib.Core.Path.{◌≡◌, refl, sym, ap, ◌∙◌}
 use mathlib.Core.List.{List, [], ◌∷◌}
 use native.Mathlib.Omega.{arith}
-use lib.ListN.{length, get_or, take, drop}
+use lib.ListN.{length, get_or, take, drop, drop_of_length-le}
 use lib.Seq.{take_all}
 use borrow.Author.Tests.{ne_eqb}
 use Rattle.std.specs.Prelude.{Option, Some, None, MatchOption, IsSomeAnd, option_map, unwrap_or}
@@ -33,7 +33,7 @@ told_then (got v []) told order command h = h v
 told_then (got v (b ∷ rest)) told order command h = refl
 
 -- what `map` ensures where it is given f
-pub mapped : {A B : Type 0} (f : A → B) (o : Option A) (r : Option B) → MatchOption o (r ≡ None) (λ x. IsSomeAnd r (λ y. y ≡ f x)) → r ≡ option_map f o
+mapped : {A B : Type 0} (f : A → B) (o : Option A) (r : Option B) → MatchOption o (r ≡ None) (λ x. IsSomeAnd r (λ y. y ≡ f x)) → r ≡ option_map f o
 mapped f None r h = h
 mapped f (Some x) None h = absurd h
 mapped f (Some x) (Some y) h = ap Some h
@@ -48,6 +48,10 @@ pub order_none : (s : List ℕ) → length s < 1 → Malformed ≡ order_told (c
 unfolding command_in order_told
 order_none [] h = refl
 order_none (b ∷ s) h = absurd (omega arith)
+
+-- no byte from the index on
+pub order_past : (s : List ℕ) (at : ℕ) → length s ≤ at → Malformed ≡ order_told (command_in (drop at s))
+order_past s at h = rw (drop_of_length-le s {i = at} h) (order_none [] (omega arith))
 
 module _ (s rest : List ℕ) (h : 1 ≤ length s) (r : rest ≡ take (length s - 1) (drop 1 s)) where
   from_byte : s ≡ get_or s 0 0 ∷ rest
@@ -70,18 +74,18 @@ module _ (s rest : List ℕ) (h : 1 ≤ length s) (r : rest ≡ take (length s -
       ∙ told_whole (read_fields extend_fields rest) (λ vs. vs) (λ vs. Extend vs.0 vs.1.0) (λ vs. extend vs.0 vs.1.0) (λ vs. refl)
       ∙ sym (ap (λ (l : List ℕ). order_told (command_in l)) (from_byte ∙ ap (λ (k : ℕ). k ∷ rest) e))
 
-  -- of the handle that a rotate or a destroy has alone
-  module _ (o : Option (List ℕ)) (told : o ≡ whole_told (read_fields handle_fields rest) (λ vs. vs.0)) where
-    pub order_rotate : get_or s 0 0 ≡ 3 → unwrap_or (option_map (λ k. Rotate k) o) Malformed ≡ order_told (command_in s)
+  -- of the handle that a rotate or a destroy has alone, o, and what `map` makes of it
+  module _ (o : Option (List ℕ)) (made : Option Order) (told : o ≡ whole_told (read_fields handle_fields rest) (λ vs. vs.0)) where
+    pub order_rotate : MatchOption o (made ≡ None) (λ x. IsSomeAnd made (λ y. y ≡ Rotate x)) → get_or s 0 0 ≡ 3 → unwrap_or made Malformed ≡ order_told (command_in s)
     unfolding command_in order_told
-    order_rotate e =
-        rw told (told_then (read_fields handle_fields rest) (λ vs. vs.0) (λ k. Rotate k) (λ vs. rotate vs.0) (λ vs. refl))
+    order_rotate m e =
+        rw (mapped (λ k. Rotate k) o made m, told) (told_then (read_fields handle_fields rest) (λ vs. vs.0) (λ k. Rotate k) (λ vs. rotate vs.0) (λ vs. refl))
         ∙ sym (ap (λ (l : List ℕ). order_told (command_in l)) (from_byte ∙ ap (λ (k : ℕ). k ∷ rest) e))
 
-    pub order_destroy : get_or s 0 0 ≡ 4 → unwrap_or (option_map (λ k. Destroy k) o) Malformed ≡ order_told (command_in s)
+    pub order_destroy : MatchOption o (made ≡ None) (λ x. IsSomeAnd made (λ y. y ≡ Destroy x)) → get_or s 0 0 ≡ 4 → unwrap_or made Malformed ≡ order_told (command_in s)
     unfolding command_in order_told
-    order_destroy e =
-        rw told (told_then (read_fields handle_fields rest) (λ vs. vs.0) (λ k. Destroy k) (λ vs. destroy vs.0) (λ vs. refl))
+    order_destroy m e =
+        rw (mapped (λ k. Destroy k) o made m, told) (told_then (read_fields handle_fields rest) (λ vs. vs.0) (λ k. Destroy k) (λ vs. destroy vs.0) (λ vs. refl))
         ∙ sym (ap (λ (l : List ℕ). order_told (command_in l)) (from_byte ∙ ap (λ (k : ℕ). k ∷ rest) e))
 
   pub order_unlisted : let c = get_or s 0 0 in

@@ -73,6 +73,7 @@ fn lone_handle(s: &[u8]) -> Option<[u8; HANDLE_BYTES]>
 }
 
 // The command at the front, if the data is one's.
+#[tactic(auto, using(crate::proofs::Whole::order_none, crate::proofs::Whole::order_derive, crate::proofs::Whole::order_extend, crate::proofs::Whole::order_rotate, crate::proofs::Whole::order_destroy, crate::proofs::Whole::order_unlisted))]
 fn order_in(content: &[u8]) -> Option<Order>
     ensures { unwrap_or result Order.Malformed ≡ order_told (command_in content.now) }
 {
@@ -90,6 +91,7 @@ fn order_in(content: &[u8]) -> Option<Order>
 
 // The command from an index on. Malformed: no bytes there, a first byte of no command, a field that is cut
 // or a number not in shortest form, bytes left over.
+#[tactic(auto, using(crate::proofs::Whole::order_past))]
 pub fn read_order(bytes: &[u8], at: usize) -> Order
     ensures { result ≡ order_told (command_in (drop at bytes.now)) }
 {
