@@ -4,46 +4,36 @@
 
 mod handles;
 
-ghost use Rattle.std.specs.Prelude.{◌≡◌};
+ghost use Rattle.std.specs.Prelude.{◌≡◌, IfOk};
+ghost use Rattle.layout.specs.Sizes.{node_count};
+ghost use Rattle.tree.specs.Tree.{node_with};
 ghost use Rattle.tree.specs.Nodes.{tree_in};
-ghost use Rattle.grounds.specs.Ground.{dpe_result, first_of, ground_of, malformed_by, handle_declines, derive_declines, extend_declines, rotate_declines, destroy_declines, own_ground};
+ghost use Rattle.nodes.specs.Record.{handle_row};
+ghost use Rattle.grounds.specs.Ground.{dpe_result, first_of, ground_of, handle_declines, derive_declines, extend_declines, rotate_declines, destroy_declines};
 
 use crate::handles::{all_are, is_unfit};
 use layout::refusals::Decline;
-use layout::{HANDLE_WORDS, NODES, RETIRED_WORD};
+use layout::{HANDLE_BYTES, NODES, RETIRED_WORD};
 use nodes::handle_words;
-use orders::{Operation, Order};
+use orders::Order;
 use tree::freed::childless;
 use tree::index::{free_index, handle_index, locality_at, root_at};
 
-// A retain is 1 or 0.
-fn is_malformed(operation: Operation, retain: u32) -> bool
-    ensures { result ≡ malformed_by operation retain }
+// The node that a command names: one holds the handle, and the caller has its locality.
+fn named(image: &[u32], handle: [u8; HANDLE_BYTES], caller: u32) -> Result<usize, Decline>
+    ensures value { dpe_result result ≡ first_of (handle_declines (tree_in image.now) handle caller) }
+    ensures node { IfOk result (λ i. i ≡ node_with node_count (tree_in image.now) (handle_row handle)) }
 {
-    match operation {
-        Operation::Derive => 1 < retain,
-        Operation::Extend | Operation::Rotate | Operation::Destroy => false,
-        Operation::Malformed => true,
-    }
-}
-
-// By the handle's words and the node that holds it.
-fn handle_ground(
-    image: &[u32],
-    handle: [u32; HANDLE_WORDS],
-    node: usize,
-    caller: u32,
-) -> Result<(), Decline>
-    ensures { dpe_result result ≡ first_of (handle_declines (tree_in image.now) handle node caller) }
-{
-    if all_are(handle, RETIRED_WORD) || NODES <= node {
+    let words = handle_words(handle);
+    let node = handle_index(image, words);
+    if all_are(words, RETIRED_WORD) || NODES <= node {
         return Err(Decline::NoHandle);
     }
     let locality = locality_at(image, node);
     if locality != caller {
         return Err(Decline::Caller);
     }
-    Ok(())
+    Ok(node)
 }
 
 fn derive_ground(image: &[u32], fresh: &[u8]) -> Result<(), Decline>
@@ -88,29 +78,31 @@ fn destroy_ground(image: &[u32], node: usize) -> Result<(), Decline>
     Ok(())
 }
 
-// By the operation, at the node that the handle names.
-fn own_ground(image: &[u32], operation: Operation, node: usize, fresh: &[u8]) -> Result<(), Decline>
-    ensures { dpe_result result ≡ own_ground operation (tree_in image.now) node fresh.now }
-{
-    match operation {
-        Operation::Derive => derive_ground(image, fresh),
-        Operation::Extend => extend_ground(image, node),
-        Operation::Rotate => rotate_ground(image, fresh),
-        Operation::Destroy => destroy_ground(image, node),
-        Operation::Malformed => Ok(()),
-    }
-}
-
-// The data first, then the handle and the caller, then what the operation asks.
+// The data first, where a derive's retain is 1 or 0, then the handle and the caller, then what the command asks.
+#[tactic(auto, using(crate::proofs::Parted::by_handle, crate::proofs::Parted::by_command, crate::proofs::Parted::not_accepted), unfolding(crate::specs::Ground::ground_of, orders::specs::Told::command_from))]
 pub fn ground(image: &[u32], order: Order, fresh: &[u8], caller: u32) -> Result<(), Decline>
     ensures { dpe_result result ≡ ground_of image.now order fresh.now caller }
 {
-    let operation = order.operation;
-    if is_malformed(operation, order.retain) {
-        return Err(Decline::Malformed);
+    match order {
+        Order::Derive(fields) => {
+            if 1 < fields.retain {
+                return Err(Decline::Malformed);
+            }
+            named(image, fields.handle, caller)?;
+            derive_ground(image, fresh)
+        }
+        Order::Extend { handle, .. } => {
+            let node = named(image, handle, caller)?;
+            extend_ground(image, node)
+        }
+        Order::Rotate(handle) => {
+            named(image, handle, caller)?;
+            rotate_ground(image, fresh)
+        }
+        Order::Destroy(handle) => {
+            let node = named(image, handle, caller)?;
+            destroy_ground(image, node)
+        }
+        Order::Malformed => Err(Decline::Malformed),
     }
-    let words = handle_words(order.handle);
-    let node = handle_index(image, words);
-    handle_ground(image, words, node, caller)?;
-    own_ground(image, operation, node, fresh)
 }

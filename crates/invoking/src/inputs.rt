@@ -4,6 +4,7 @@ ghost use Rattle.std.specs.Prelude.{◌≡◌, ◌++◌, ◌-◌, ◌*◌};
 ghost use Rattle.layout.specs.Sizes.{handle_bytes};
 ghost use Rattle.layout.specs.Words.{part, zeros};
 
+use journal_bytes::read::handles;
 use layout::{HANDLE_BYTES, INPUT_BYTES};
 use slices::strings::{bytes_of, joined};
 
@@ -12,13 +13,6 @@ pub(crate) fn fresh_bytes(fresh: &[u8]) -> [u8; HANDLE_BYTES]
     ensures { result ≡ part handle_bytes fresh.now 0 }
 {
     bytes_of(fresh, 0)
-}
-
-// Two handles, and zeros to 48 bytes.
-fn handles(first: [u8; HANDLE_BYTES], second: [u8; HANDLE_BYTES]) -> [u8; 48]
-    ensures { result ≡ first ++ (second ++ zeros (48 - 2 * handle_bytes)) }
-{
-    joined(&first, &second)
 }
 
 pub(crate) fn inputs_of(

@@ -17,10 +17,11 @@ ghost use Rattle.invoking.specs.Planned.{planned_of};
 
 use crate::inputs::{fresh_bytes, inputs_of};
 use crate::rows::{child_row, extended_row, with_caller};
+use journal_bytes::read::DeriveFields;
 use layout::{HANDLE_BYTES, INPUT_BYTES, NODE_WORDS, REGISTER_WORDS};
 use making::{Values, no_values};
 use nodes::{handle_row, handle_words};
-use orders::{Operation, Order};
+use orders::Order;
 use table::{Kind, StashAt};
 use tree::freed::freed_by;
 use tree::index::{free_index, handle_index};
@@ -65,22 +66,16 @@ fn derive_kind(retain: u32, node: usize, parent: usize) -> Kind
     Kind::Derive(node)
 }
 
-fn plan_derive(
-    image: &[u32],
-    handle: [u8; HANDLE_BYTES],
-    retain: u32,
-    node_type: u32,
-    digest: [u8; 48],
-    fresh: &[u8],
-    caller: u32,
-) -> Planned
-    ensures { result ≡ planned_of (derive handle retain node_type digest) fresh.now caller image.now }
+fn plan_derive(image: &[u32], fields: DeriveFields, fresh: &[u8], caller: u32) -> Planned
+    ensures { result ≡ planned_of (derive fields.handle fields.retain fields.node_type fields.digest) fresh.now caller image.now }
 {
+    let handle = fields.handle;
+    let digest = fields.digest;
     let parent = named(image, handle);
     let node = free_index(image);
-    let kind = derive_kind(retain, node, parent);
+    let kind = derive_kind(fields.retain, node, parent);
     let child = fresh_bytes(fresh);
-    let row = child_row(parent, child, node_type, digest, caller);
+    let row = child_row(parent, child, fields.node_type, digest, caller);
     let values = node_values(row, inputs_of(digest, handle, child));
     Planned { kind, values }
 }
@@ -135,25 +130,15 @@ fn plan_nothing() -> Planned
 }
 
 // The kind and the values of a command's work on an image; a malformed command's stores nothing.
+#[tactic(auto, unfolding(orders::specs::Told::command_from))]
 pub fn plan_order(image: &[u32], order: Order, fresh: &[u8], caller: u32) -> Planned
     ensures { result ≡ planned_of (command_from order) fresh.now caller image.now }
 {
-    let operation = order.operation;
-    let handle = order.handle;
-    let digest = order.digest;
-    match operation {
-        Operation::Derive => plan_derive(
-            image,
-            handle,
-            order.retain,
-            order.node_type,
-            digest,
-            fresh,
-            caller,
-        ),
-        Operation::Extend => plan_extend(image, handle, digest, caller),
-        Operation::Rotate => plan_rotate(image, handle, fresh, caller),
-        Operation::Destroy => plan_destroy(image, handle, caller),
-        Operation::Malformed => plan_nothing(),
+    match order {
+        Order::Derive(fields) => plan_derive(image, fields, fresh, caller),
+        Order::Extend { handle, digest } => plan_extend(image, handle, digest, caller),
+        Order::Rotate(handle) => plan_rotate(image, handle, fresh, caller),
+        Order::Destroy(handle) => plan_destroy(image, handle, caller),
+        Order::Malformed => plan_nothing(),
     }
 }

@@ -49,7 +49,7 @@ pub fn take_derive_fields(s: &[u8]) -> Result<(DeriveFields, &[u8]), Refusal>
 }
 
 // Two handles, one after the other, in the room of a second digest.
-fn handles(handle: [u8; HANDLE_BYTES], fresh: [u8; HANDLE_BYTES]) -> [u8; DIGEST_BYTES]
+pub fn handles(handle: [u8; HANDLE_BYTES], fresh: [u8; HANDLE_BYTES]) -> [u8; DIGEST_BYTES]
     ensures { result ≡ handles_in handle fresh }
 {
     let mut out = [0u8; DIGEST_BYTES];
