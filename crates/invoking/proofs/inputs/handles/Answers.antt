@@ -1,5 +1,5 @@
 -- Both handles, and zeros behind them.
-use Rattle.std.proofs.Common.{rules, ◌≡◌, ◌++◌, ◌∙◌, ◌+◌, ◌-◌, ◌*◌, ◌≤◌, ℕ, List, length, length-append, append_assoc, ap, arith}
+use Rattle.std.proofs.Common.{rules, ◌≡◌, ◌++◌, ◌∙◌, ◌-◌, ◌*◌, ℕ, List, length, length-append, append_assoc, ap, arith}
 use Rattle.layout.specs.Sizes.{handle_bytes}
 use Rattle.layout.specs.Words.{part, zeros}
 use Rattle.layout.proofs.Packing.{part_padded}
