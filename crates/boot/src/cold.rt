@@ -1,6 +1,7 @@
 // A cold boot: the same work whatever the image holds.
 ghost use Rattle.std.specs.Prelude.{◌≡◌};
 ghost use Rattle.opening.specs.Tasks.{boot_of};
+ghost use Rattle.opening.specs.Lent.{boot_in};
 ghost use Rattle.opening.specs.Works.{cold_values};
 ghost use Rattle.opening.specs.Openings.{status_number, boot_number, outcome_in, open_cold_boot, cold_booted, done_by};
 ghost use Rattle.boot.specs.Given.{given, cold_ruled};
@@ -13,6 +14,7 @@ use layout::{HANDLE_BYTES, INTERNAL_FLAG, ROOT_MARK, ROOT_TYPE};
 use making::Values;
 use making::run::run_all;
 use nodes::node_row;
+use opening::inputs::BootInputs;
 use opening::{Opened, Outcome};
 use sha384::digest::extend;
 use slices::little_endian::pack;
@@ -55,15 +57,10 @@ fn cold_values(x: Inputs) -> Values
 }
 
 // The work that a cold boot opens.
-fn cold_work(
-    image: &[u32],
-    runtime: &[u8],
-    manifest: &[u8],
-    secret: &[u8],
-) -> Result<(Work, Outcome), Refusal>
-    ensures { result ≡ cold_ruled image.now (boot_of runtime.now manifest.now secret.now) }
+fn cold_work(image: &[u32], lent: BootInputs) -> Result<(Work, Outcome), Refusal>
+    ensures { result ≡ cold_ruled image.now (boot_in lent.entry) }
 {
-    let x = screened(image, runtime, manifest, secret)?;
+    let x = screened(image, lent)?;
     Ok((ready_with(Kind::ColdBoot, cold_values(x)), Outcome::Cold))
 }
 
@@ -79,7 +76,12 @@ pub fn open_cold_boot(
     ensures status_value { boot_number result.status ≡ boot_number (open_cold_boot image.now (boot_of runtime.now manifest.now secret.now)).status }
     ensures status_value_2 { outcome_in result.status ≡ outcome_in (open_cold_boot image.now (boot_of runtime.now manifest.now secret.now)).status }
 {
-    Opened::from(cold_work(image, runtime, manifest, secret))
+    let lent = BootInputs {
+        runtime,
+        manifest,
+        secret,
+    };
+    Opened::from(cold_work(image, lent))
 }
 
 // Boots an image cold: opens the boot and makes all its stores. Refused, it stores nothing.

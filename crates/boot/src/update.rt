@@ -1,12 +1,10 @@
 // Opening an update boot: a disabling where anything is amiss, else kept or updated by ROM's verdict.
 ghost use Rattle.std.specs.Prelude.{◌≡◌, [], ◌≤◌, length};
 ghost use Rattle.layout.specs.Sizes.{image_words, node_count};
-ghost use Rattle.layout.specs.Words.{bytes48};
-ghost use Rattle.sha384.specs.Entries.{extended};
-ghost use Rattle.nodes.specs.Record.{measurements_row};
 ghost use Rattle.tree.specs.Tree.{root_in};
-ghost use Rattle.tree.specs.Nodes.{tree_in, cumulative_in};
+ghost use Rattle.tree.specs.Nodes.{tree_in};
 ghost use Rattle.opening.specs.Tasks.{boot_of, update};
+ghost use Rattle.opening.specs.Lent.{boot_in};
 ghost use Rattle.opening.specs.Works.{work_at, update_values};
 ghost use Rattle.opening.specs.Openings.{boot_number, outcome_in, root_matches, intact, open_update_boot};
 ghost use Rattle.boot.specs.Given.{given, update_ruled};
@@ -15,15 +13,12 @@ use crate::inputs::{Inputs, digests_of, extend_by_boot};
 use crate::ready::ready_with;
 use crate::screen::screened;
 use layout::refusals::Refusal;
-use layout::{
-    ATTESTATION_AT, CUMULATIVE_AT, CURRENT_AT, MARK_AT, NODE_WORDS, NODES_AT, PCR3_AT,
-    REGISTER_WORDS,
-};
+use layout::{ATTESTATION_AT, CURRENT_AT, MARK_AT, NODE_WORDS, NODES_AT, PCR3_AT, REGISTER_WORDS};
 use making::{Values, bare_work};
-use nodes::measurements_row;
+use opening::extended::extended_row;
+use opening::inputs::BootInputs;
 use opening::{Opened, Outcome};
 use packing::{bytes_in, word};
-use sha384::digest::extend;
 use slices::little_endian::pack;
 use table::Kind;
 use tree::formed::well_formed;
@@ -50,15 +45,6 @@ fn is_intact(image: &[u32]) -> bool
         && root_matches(image, root_index(image))
 }
 
-// The root's measurements from the new journey.
-fn root_row(image: &[u32], root: usize, journey: [u8; 48]) -> [u32; NODE_WORDS]
-    requires { root ≤ node_count }
-    ensures { result ≡ measurements_row journey (extended (bytes48 (cumulative_in image.now root)) journey) }
-{
-    let before = bytes_in(image, NODES_AT + NODE_WORDS * root + CUMULATIVE_AT);
-    measurements_row(journey, extend(before, journey))
-}
-
 // The words that an update will store, and the digests that its entry tells.
 fn update_values(image: &[u32], root: usize, x: Inputs) -> Values
     requires { (root ≤ node_count) × (root ≡ root_in node_count (tree_in image.now)) }
@@ -68,7 +54,7 @@ fn update_values(image: &[u32], root: usize, x: Inputs) -> Values
     let journey = extend_by_boot(bytes_in(image, PCR3_AT), x);
     let register = pack(&current, 0);
     let words = pack(&journey, 0);
-    let node = root_row(image, root, journey);
+    let node = extended_row(image, root, journey);
     let secret = x.secret;
     let kept = pack(&secret, 0);
     let inputs = digests_of(x);
@@ -91,16 +77,10 @@ fn updated(image: &[u32], x: Inputs) -> Work
 }
 
 // The work that an update boot opens.
-fn update_work(
-    image: &[u32],
-    runtime: &[u8],
-    manifest: &[u8],
-    secret: &[u8],
-    verdict: bool,
-) -> Result<(Work, Outcome), Refusal>
-    ensures { result ≡ update_ruled image.now (boot_of runtime.now manifest.now secret.now) verdict }
+fn update_work(image: &[u32], lent: BootInputs, verdict: bool) -> Result<(Work, Outcome), Refusal>
+    ensures { result ≡ update_ruled image.now (boot_in lent.entry) verdict }
 {
-    let x = screened(image, runtime, manifest, secret)?;
+    let x = screened(image, lent)?;
     if !is_intact(image) {
         return Ok((bare_work(Kind::Disabling), Outcome::Disabled));
     }
@@ -123,5 +103,10 @@ pub fn open_update_boot(
     ensures status_value { boot_number result.status ≡ boot_number (open_update_boot image.now (boot_of runtime.now manifest.now secret.now) verdict).status }
     ensures status_value_2 { outcome_in result.status ≡ outcome_in (open_update_boot image.now (boot_of runtime.now manifest.now secret.now) verdict).status }
 {
-    Opened::from(update_work(image, runtime, manifest, secret, verdict))
+    let lent = BootInputs {
+        runtime,
+        manifest,
+        secret,
+    };
+    Opened::from(update_work(image, lent, verdict))
 }

@@ -3,7 +3,8 @@ ghost use Rattle.std.specs.Prelude.{◌≡◌, ◌+◌, ◌*◌, ◌<◌, ◌≤
 ghost use Rattle.driver.specs.Run.{memory_words};
 
 use crate::state::MEMORY_WORDS;
-use machine::{BootInputs, Op, RequestInputs};
+use machine::Op;
+use opening::inputs::{BootInputs, RequestInputs};
 
 // The bytes of an image's words, which the memory has room for.
 #[derive(Clone, Copy)]

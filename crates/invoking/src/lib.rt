@@ -16,11 +16,12 @@ ghost use Rattle.orders.specs.Told.{command_from};
 ghost use Rattle.invoking.specs.Planned.{planned_of};
 
 use crate::inputs::{fresh_bytes, inputs_of};
-use crate::rows::{child_row, extended_row, with_caller};
+use crate::rows::{child_row, with_caller};
 use journal_bytes::read::DeriveFields;
 use layout::{HANDLE_BYTES, INPUT_BYTES, NODE_WORDS, REGISTER_WORDS};
 use making::{Values, no_values};
 use nodes::{handle_row, handle_words};
+use opening::extended::extended_row;
 use orders::Order;
 use table::{Kind, StashAt};
 use tree::freed::freed_by;

@@ -3,7 +3,7 @@ use Rattle.std.specs.Prelude.{◌≡◌, ℕ, cond, List, [], eqb, take, Option,
 use Rattle.std.proofs.Math.Option as math
 use Rattle.table.specs.declared.Kind.{Kind}
 use Rattle.table.specs.declared.Kind.TheVariants.{Nothing}
-use Rattle.opening.specs.Tasks.{Request, BootInputs, request_of, boot_of}
+use Rattle.opening.specs.Tasks.{Request, BootInputs}
 use Rattle.opening.specs.Openings.{outcome_number}
 use Rattle.history.specs.Calls.{Hand, Machine, Step, request, update_boot, store, answer, entry, power_cut, Act, open_cold, call, Result, refusal, opened, booted, stored, answered, recorded, no_work, cut_off}
 use Rattle.machine.specs.declared.InHand.{InHand}
@@ -11,8 +11,6 @@ use Rattle.machine.specs.declared.Report.{Report}
 use Rattle.machine.specs.declared.Report.TheVariants.{Refused, Opened, Booted, Stored, Answered, Recorded, NoWork, CutOff}
 use Rattle.machine.specs.declared.Made.{Made}
 use Rattle.machine.specs.declared.Op.{Op}
-use Rattle.machine.specs.declared.RequestInputs.{RequestInputs}
-use Rattle.machine.specs.declared.BootInputs as declared
 
 -- the machine's work in hand, if there is one
 unfoldable pub hand_of : Option InHand → math.Option Hand
@@ -42,13 +40,6 @@ act_by Op.ColdBoot r x buffer = open_cold x
 act_by Op.Answer r x buffer = call (answer buffer)
 act_by Op.Entry r x buffer = call (entry buffer)
 act_by Op.PowerCut r x buffer = call power_cut
-
--- a request and a boot's inputs, as they are lent
-unfoldable pub request_in : RequestInputs → Request
-request_in r = request_of r.code r.bytes.now r.caller r.handoff.now r.verdict r.fresh.now
-
-unfoldable pub boot_in : declared.BootInputs → BootInputs
-boot_in x = boot_of x.runtime.now x.manifest.now x.secret.now
 
 -- the act of a number
 abbrev pub act_of : ℕ → Request → BootInputs → List ℕ → Act

@@ -2,11 +2,13 @@
 ghost use Rattle.std.specs.Prelude.{◌≡◌, cond, List, ℕ, eqb, Some};
 ghost use Rattle.work.specs.Entries.{left_of};
 ghost use Rattle.history.specs.Calls.{step, act, open_cold, request, update_boot, store, answer, entry, power_cut, after_request, after_boot};
-ghost use Rattle.machine.specs.Call.{machine_of, request_in, boot_in, step_of, Makes, buffer_after};
+ghost use Rattle.opening.specs.Lent.{request_in, boot_in};
+ghost use Rattle.machine.specs.Call.{machine_of, step_of, Makes, buffer_after};
 
-use crate::{BootInputs, InHand, Made, Report, RequestInputs};
+use crate::{InHand, Made, Report};
 use boot::cold::open_cold_boot;
 use boot::update::open_update_boot;
+use opening::inputs::{BootInputs, RequestInputs};
 use opening::{Opened, Outcome};
 use request::open::open_request;
 use work::Work;

@@ -6,12 +6,14 @@ mod calls;
 
 ghost use Rattle.std.specs.Prelude.{◌≡◌};
 ghost use Rattle.history.specs.Calls.{act};
-ghost use Rattle.machine.specs.Call.{machine_of, request_in, boot_in, op_of, act_of, step_of, buffer_after};
+ghost use Rattle.opening.specs.Lent.{request_in, boot_in};
+ghost use Rattle.machine.specs.Call.{machine_of, op_of, act_of, step_of, buffer_after};
 
 use crate::calls::{
     answer_call, cold_boot_call, cut_call, entry_call, request_call, store_call, update_boot_call,
 };
 use opening::Outcome;
+use opening::inputs::{BootInputs, RequestInputs};
 use work::Work;
 
 // A work in hand, and whether a boot opened it.
@@ -69,25 +71,6 @@ impl From<u8> for Op {
             _ => Op::PowerCut,
         }
     }
-}
-
-// What a request's opening reads, with ROM's verdict, which an update boot's reads too.
-#[derive(Clone, Copy)]
-pub struct RequestInputs<'a> {
-    pub code: u32,
-    pub bytes: &'a [u8],
-    pub caller: u32,
-    pub handoff: &'a [u8],
-    pub verdict: bool,
-    pub fresh: &'a [u8],
-}
-
-// What a boot's opening reads.
-#[derive(Clone, Copy)]
-pub struct BootInputs<'a> {
-    pub runtime: &'a [u8],
-    pub manifest: &'a [u8],
-    pub secret: &'a [u8],
 }
 
 // One act, by its number.

@@ -2,6 +2,7 @@
 ghost use Rattle.std.specs.Prelude.{◌≡◌, true, length};
 ghost use Rattle.layout.specs.Sizes.{image_words};
 ghost use Rattle.opening.specs.Tasks.{request_of};
+ghost use Rattle.opening.specs.Lent.{request_in};
 ghost use Rattle.opening.specs.Openings.{status_number, open_request};
 ghost use Rattle.request.specs.Screen.{row_of, screened_opened, request_ruled, told};
 
@@ -15,43 +16,27 @@ use crate::verify::serve_verify;
 use layout::refusals::Refusal;
 use layout::{IMAGE_WORDS, MARK_AT};
 use opening::Opened;
+use opening::inputs::RequestInputs;
 use work::Work;
 
 // What the command answers once the screen has passed.
-fn serve(
-    command: Command,
-    image: &[u32],
-    code: u32,
-    bytes: &[u8],
-    caller: u32,
-    handoff: &[u8],
-    verdict: bool,
-    fresh: &[u8],
-) -> Result<Work, Refusal>
-    requires { (length image.now ≡ image_words) × ((row_of command).length_ok bytes.now ≡ true) }
-    ensures { result ≡ screened_opened (row_of command) image.now (request_of code bytes.now caller handoff.now verdict fresh.now) }
+fn serve(command: Command, image: &[u32], lent: RequestInputs) -> Result<Work, Refusal>
+    requires { (length image.now ≡ image_words) × ((row_of command).length_ok lent.bytes.now ≡ true) }
+    ensures { result ≡ screened_opened (row_of command) image.now (request_in lent.entry) }
 {
     match command {
-        Command::Stash => serve_stash(image, bytes, caller),
+        Command::Stash => serve_stash(image, lent.bytes, lent.caller),
         Command::Disable => serve_disable(image),
-        Command::Identity => serve_identity(image, handoff),
-        Command::Verify => serve_verify(image, verdict),
-        Command::Extend => serve_extend(image, bytes),
-        Command::Invoke => serve_invoke(image, bytes, caller, fresh),
+        Command::Identity => serve_identity(image, lent.handoff),
+        Command::Verify => serve_verify(image, lent.verdict),
+        Command::Extend => serve_extend(image, lent.bytes),
+        Command::Invoke => serve_invoke(image, lent.bytes, lent.caller, lent.fresh),
     }
 }
 
 // The work that a request opens: the refusals in their order.
-fn request_work(
-    image: &[u32],
-    code: u32,
-    bytes: &[u8],
-    caller: u32,
-    handoff: &[u8],
-    verdict: bool,
-    fresh: &[u8],
-) -> Result<(Work, ()), Refusal>
-    ensures { result ≡ told (request_ruled image.now (request_of code bytes.now caller handoff.now verdict fresh.now)) }
+fn request_work(image: &[u32], lent: RequestInputs) -> Result<(Work, ()), Refusal>
+    ensures { result ≡ told (request_ruled image.now (request_in lent.entry)) }
 {
     if image.len() != IMAGE_WORDS {
         return Err(Refusal::WrongImage);
@@ -59,9 +44,9 @@ fn request_work(
     if image[MARK_AT] != 1 {
         return Err(Refusal::Unfinished);
     }
-    let command = Command::try_from(code)?;
-    command.screen(code, bytes)?;
-    let work = serve(command, image, code, bytes, caller, handoff, verdict, fresh)?;
+    let command = Command::try_from(lent.code)?;
+    command.screen(lent.code, lent.bytes)?;
+    let work = serve(command, image, lent)?;
     Ok((work, ()))
 }
 
@@ -79,5 +64,13 @@ pub fn open_request(
     ensures value { result ≡ open_request image.now (request_of code bytes.now caller handoff.now verdict fresh.now) }
     ensures status_value { status_number result.status ≡ status_number (open_request image.now (request_of code bytes.now caller handoff.now verdict fresh.now)).status }
 {
-    Opened::from(request_work(image, code, bytes, caller, handoff, verdict, fresh))
+    let lent = RequestInputs {
+        code,
+        bytes,
+        caller,
+        handoff,
+        verdict,
+        fresh,
+    };
+    Opened::from(request_work(image, lent))
 }

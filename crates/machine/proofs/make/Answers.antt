@@ -1,5 +1,5 @@
 -- The act is the same on both sides; only an answer or an entry writes the buffer (`made`).
-use Rattle.machine.specs.Call.{act_by, request_in}
+use Rattle.machine.specs.Call.{act_by}
 use Rattle.machine.proofs.Steps.{made}
 use Rattle.machine.proofs.make.Goals as goal
 
@@ -10,7 +10,7 @@ returns-in-Request c =
     rw (← c.from.ensures, c.in-Request.is) record { step_made = r.0; buffer_left = r.1 }
 
 pub returns-in-UpdateBoot : goal.returns-in-UpdateBoot
-unfolding act_by request_in
+unfolding act_by
 returns-in-UpdateBoot c =
     let r = made c.update_boot_call.result _ _ c.update_boot_call.ensures c.args.buffer.now in
     rw (← c.from.ensures, c.in-UpdateBoot.is) record { step_made = r.0; buffer_left = r.1 }

@@ -3,7 +3,8 @@ use mathlib.Core.Path.{ap, ◌∙◌}
 use mathlib.Core.List.{[]}
 use Rattle.std.specs.Prelude.{Ok}
 use Rattle.std.proofs.lemmas.Result.{err_from_is_err_and}
-use Rattle.opening.specs.Tasks.{boot_of, cold_boot}
+use Rattle.opening.specs.Tasks.{cold_boot}
+use Rattle.opening.specs.Lent.{boot_in}
 use Rattle.table.specs.declared.Kind.TheVariants.{ColdBoot}
 use Rattle.work.specs.declared.Work.{Work}
 use Rattle.making.specs.declared.Values.{Values}
@@ -18,13 +19,13 @@ unfolding cold_ruled
 returns-in_err-x c =
     let a = c.args in
     let p = err_from_is_err_and c.from_residual.result c.from_residual.ensures.1 in
-    rw (p.1, p.2, c.in_err-x.ensures (cold_boot (boot_of a.runtime.now a.manifest.now a.secret.now)))
+    rw (p.1, p.2, c.in_err-x.ensures (cold_boot (boot_in a.lent)))
 
 pub returns : goal.returns
 unfolding cold_ruled work_at
 returns c =
     let a = c.args in
     let s = c.in_ok-x.ensures in
-    rw (s.2 (cold_boot (boot_of a.runtime.now a.manifest.now a.secret.now)))
+    rw (s.2 (cold_boot (boot_in a.lent)))
     (ap (λ (w : Work). Ok (w, Cold)) (c.ready_with.ensures
     ∙ ap (λ (v : Values). work_with ColdBoot v []) (c.cold_values.ensures ∙ ap cold_values s.1)))

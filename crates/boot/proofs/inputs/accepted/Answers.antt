@@ -1,6 +1,7 @@
 -- The first 48 bytes of an accepted input are all of it.
 use Rattle.layout.proofs.Cases.{told}
-use Rattle.opening.specs.Tasks.{BootInputs, boot_of}
+use Rattle.opening.specs.Tasks.{BootInputs}
+use Rattle.opening.specs.Lent.{boot_in}
 use Rattle.boot.proofs.Sizes.{runtime_whole, manifest_whole, secret_whole}
 use Rattle.boot.proofs.inputs.accepted.Goals as goal
 
@@ -10,7 +11,7 @@ returns-then-not-inputs_ok c = rw (told c.inputs_ok.ensures c.if-not-inputs_ok.t
 pub returns : goal.returns
 returns c =
     let a = c.args in
-    let x : BootInputs = boot_of a.runtime.now a.manifest.now a.secret.now in
+    let x : BootInputs = boot_in a.lent in
     let ok = told c.inputs_ok.ensures c.if-not-inputs_ok.false in
     rw (
       ok,

@@ -2,7 +2,7 @@
 use lib.ListN.{length}
 use borrow.Author.Tests.{ne_eqb}
 use Rattle.layout.specs.Sizes.{image_words}
-use Rattle.opening.specs.Tasks.{boot_of}
+use Rattle.opening.specs.Lent.{boot_in}
 use Rattle.boot.proofs.Accepted.{screens}
 use Rattle.boot.proofs.screen.screened.Goals as goal
 
@@ -12,4 +12,4 @@ returns-then-image-ne-IMAGE_WORDS c = λ t. rw (ne_eqb (length c.args.image.now)
 pub returns : goal.returns
 returns c =
     let a = c.args in
-    screens a.image.now (boot_of a.runtime.now a.manifest.now a.secret.now) c.if-image-ne-IMAGE_WORDS.false c.accepted.result c.accepted.ensures
+    screens a.image.now (boot_in a.lent) c.if-image-ne-IMAGE_WORDS.false c.accepted.result c.accepted.ensures

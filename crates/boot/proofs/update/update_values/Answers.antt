@@ -9,7 +9,7 @@ returns c =
     rw (
       c.digests_of-inputs.ensures,
       c.pack-kept.ensures,
-      c.root_row-node.ensures,
+      c.extended_row-node.ensures,
       c.pack-words.ensures,
       c.pack-register.ensures,
       c.extend_by_boot-journey.ensures,

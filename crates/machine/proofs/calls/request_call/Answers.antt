@@ -1,8 +1,8 @@
 -- The opening is the definition's.
-use Rattle.machine.specs.Call.{machine_of, request_in}
+use Rattle.machine.specs.Call.{machine_of}
 use Rattle.history.specs.Calls.{step}
 use Rattle.machine.proofs.calls.request_call.Goals as goal
 
 pub returns : goal.returns
-unfolding step machine_of request_in
+unfolding step machine_of
 returns c = λ b. rw (← c.open_request.ensures.value) (c.after_request.ensures c.args.image.now b)

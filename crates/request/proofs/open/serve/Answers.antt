@@ -6,7 +6,7 @@ use Rattle.request.specs.Screen.{screened_opened}
 use Rattle.request.proofs.open.serve.Goals as goal
 
 pub serve_stash-requires : goal.serve_stash-requires
-serve_stash-requires c = (c.requires.0, eqb-true (length c.args.bytes.now) stash_length (rw c.in-Stash.is at c.requires.1))
+serve_stash-requires c = (c.requires.0, eqb-true (length c.args.lent.bytes.now) stash_length (rw c.in-Stash.is at c.requires.1))
 
 pub returns-in-Stash : goal.returns-in-Stash
 unfolding screened_opened
@@ -25,7 +25,7 @@ unfolding screened_opened
 returns-in-Verify c = rw c.in-Verify.is c.serve_verify.ensures
 
 pub serve_extend-requires : goal.serve_extend-requires
-serve_extend-requires c = (c.requires.0, eqb-true (length c.args.bytes.now) extend_length (rw c.in-Extend.is at c.requires.1))
+serve_extend-requires c = (c.requires.0, eqb-true (length c.args.lent.bytes.now) extend_length (rw c.in-Extend.is at c.requires.1))
 
 pub returns-in-Extend : goal.returns-in-Extend
 unfolding screened_opened
