@@ -4,6 +4,7 @@ ghost use Rattle.flat.specs.Forms.{OpensAs, BootsAs};
 use crate::words::{WORK_WORDS, WRONG_WORK, write_work};
 use opening::{Opened, Outcome};
 
+// (kept: a number and not a Result, as the C interface's numbers begin here)
 pub fn open_into(opened: Opened<()>, work: &mut [u32]) -> u32
     ensures { OpensAs work.old work.new result opened }
 {
@@ -17,6 +18,7 @@ pub fn open_into(opened: Opened<()>, work: &mut [u32]) -> u32
     0
 }
 
+// (kept: a number, as of `open_into`)
 pub fn boot_into(booted: Opened<Outcome>, work: &mut [u32], outcome: &mut u32) -> u32
     ensures { BootsAs work.old work.new outcome.old outcome.new result booted }
 {

@@ -41,56 +41,33 @@ pub const WORK_WORDS: usize = INPUTS_IN + INPUT_BYTES / 4;
 // The number of a work buffer of another length.
 pub const WRONG_WORK: u32 = 28;
 
-// Numbers of two words.
-
-fn low(n: usize) -> u32
-    ensures { result ≡ low_of n }
+// A number as two words, low and high.
+pub fn words_of(n: usize) -> [u32; 2]
+    ensures { result ≡ low_of n ∷ high_of n ∷ [] }
 {
-    (n % 4294967296) as u32
+    [(n % 0x100000000) as u32, (n >> 32) as u32]
 }
-
-fn high(n: usize) -> u32
-    ensures { result ≡ high_of n }
-{
-    (n / 4294967296) as u32
-}
-
-// The words of a work.
 
 // The first nine words: the kind's number, and the two words of each number after it.
-fn head(
-    number: u32,
-    first: usize,
-    second: usize,
-    position: usize,
-    length: usize,
-) -> [u32; REGISTER_IN]
-    ensures { result ≡ number ∷ low_of first ∷ high_of first ∷ low_of second ∷ high_of second ∷ low_of position ∷ high_of position ∷ low_of length ∷ high_of length ∷ [] }
-{
-    [
-        number,
-        low(first),
-        high(first),
-        low(second),
-        high(second),
-        low(position),
-        high(position),
-        low(length),
-        high(length),
-    ]
-}
-
 fn head_of(kind: Kind, position: usize, answer_len: usize) -> [u32; REGISTER_IN]
     ensures { result ≡ head_of (standing kind position answer_len []) }
 {
     let coded = Coded::from(kind);
-    head(
+    let [first, first_high] = words_of(coded.first);
+    let [second, second_high] = words_of(coded.second);
+    let [position, position_high] = words_of(position);
+    let [length, length_high] = words_of(answer_len);
+    [
         coded.number,
-        coded.first,
-        coded.second,
+        first,
+        first_high,
+        second,
+        second_high,
         position,
-        answer_len,
-    )
+        position_high,
+        length,
+        length_high,
+    ]
 }
 
 // Word k of a head and a work's other parts, one after another.

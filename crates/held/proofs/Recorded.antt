@@ -1,19 +1,20 @@
 -- An entry's taking through the words is that of the work that they are: what it reads are the parts of that work; the C form's clauses follow
 -- by its number. Assumes nothing.
 use Prim.Native.Nat.{ℕ}
-use mathlib.Core.Path.{◌≡◌, refl, sym, ap, ap₂, ◌∙◌}
+use mathlib.Core.Path.{◌≡◌, ap, ap₂, ◌∙◌}
 use mathlib.Core.List.{List}
 use lib.ListN.{length}
-use borrow.Author.Tests.{eq-eqb, ne_eqb}
-use Rattle.std.proofs.Common.{Ok, Err}
+use lib.Dec.{eqb}
+use borrow.Author.Tests.{eq-eqb}
+use Rattle.std.proofs.Common.{Result, cond}
 use Rattle.layout.specs.declared.refusals.Refusal.{Refusal}
-use Rattle.layout.specs.Numbers.{refusal_number}
+use Rattle.layout.specs.Numbers.{told_number}
 use Rattle.work.specs.declared.Work.{Work}
 use Rattle.work.specs.declared.lent.Lent.{Lent}
 use Rattle.work.specs.Parts.{recording, lent_work}
 use Rattle.work.proofs.Parts.{storing_of}
-use Rattle.work.specs.Recorded.{entry_result, entry_buffer}
-use Rattle.work.proofs.Recorded.{some_number, recording_of, result_recording, buffer_recording}
+use Rattle.work.specs.Recorded.{taking_bytes, entry_result, entry_buffer}
+use Rattle.work.proofs.Recorded.{recording_of, result_recording, buffer_recording}
 use Rattle.flat.specs.Flat.{work_size, work_of}
 use Rattle.flat.specs.Forms.{entry_number_in, entry_written, entry_buffer_in}
 
@@ -33,25 +34,15 @@ module _ (l : List ℕ) (x : Lent) (inputs : List ℕ) (p : lent_work x ≡ stor
 
 -- ---- the C form's clauses
 
-module _ (l buffer : List ℕ) (h : length l ≡ work_size) where
-  module _ (n : ℕ) (r : Ok n ≡ entry_result (work_of l) buffer) where
-    pub taken_number : 0 ≡ entry_number_in l buffer
-    unfolding entry_number_in
-    taken_number = rw (eq-eqb (length l) work_size h, ← r) refl
+module _ (l buffer : List ℕ) (h : length l ≡ work_size) (x : Result ℕ Refusal) (r : x ≡ entry_result (work_of l) buffer) where
+  pub number_in : told_number x ≡ entry_number_in l buffer
+  unfolding entry_number_in
+  number_in = rw (eq-eqb (length l) work_size h) (ap told_number r)
 
-    pub taken_written : (m : ℕ) → n ≡ entry_written l buffer m
-    unfolding entry_written
-    taken_written m = rw (eq-eqb (entry_number_in l buffer) 0 (sym taken_number), ← r) refl
+  pub written_in : (n : ℕ) → cond (eqb (told_number x) 0) (taking_bytes x) n ≡ entry_written l buffer n
+  unfolding entry_written
+  written_in n = rw (← number_in) (ap (λ (y : Result ℕ Refusal). cond (eqb (told_number x) 0) (taking_bytes y) n) r)
 
-  module _ (x : Refusal) (r : Err x ≡ entry_result (work_of l) buffer) where
-    pub refused_number : refusal_number x ≡ entry_number_in l buffer
-    unfolding entry_number_in
-    refused_number = rw (eq-eqb (length l) work_size h, ← r) refl
-
-    pub refused_kept : (m : ℕ) → m ≡ entry_written l buffer m
-    unfolding entry_written
-    refused_kept m = rw (ne_eqb (entry_number_in l buffer) 0 (λ q. some_number x (refused_number ∙ q)))
-
-  pub buffer_in_law : (x : List ℕ) → x ≡ entry_buffer (work_of l) buffer → x ≡ entry_buffer_in l buffer
-  unfolding entry_buffer_in
-  buffer_in_law x e = rw (eq-eqb (length l) work_size h) e
+pub buffer_in_law : (l buffer x : List ℕ) → length l ≡ work_size → x ≡ entry_buffer (work_of l) buffer → x ≡ entry_buffer_in l buffer
+unfolding entry_buffer_in
+buffer_in_law l buffer x h e = rw (eq-eqb (length l) work_size h) e

@@ -1,9 +1,10 @@
 // The entries over a work in lent words: stores left, one store, the answer, the journal entry.
 #![tactic(auto)]
 
-ghost use Rattle.std.specs.Prelude.{◌≡◌, ◌+◌, ◌<◌, length};
+ghost use Rattle.std.specs.Prelude.{◌≡◌, ◌+◌, ◌<◌, cond, eqb, length};
+ghost use Rattle.layout.specs.Numbers.{told_number};
 ghost use Rattle.work.specs.Parts.{storing, lent_work};
-ghost use Rattle.work.specs.Recorded.{entry_result, entry_buffer};
+ghost use Rattle.work.specs.Recorded.{taking_bytes, entry_result, entry_buffer};
 ghost use Rattle.flat.specs.Flat.{work_size, work_of, answering_of};
 ghost use Rattle.flat.specs.Forms.{left_in, store_number_in, with_position, store_words, store_hand, store_image_in, answer_number_in, answer_written, answer_buffer_in, entry_number_in, entry_written, entry_buffer_in};
 
@@ -11,7 +12,7 @@ use crate::reading::{answer_in, answer_len_in, inputs_in, kind_in, node_in, posi
 use flat::WORK_WORDS;
 use flat::words::{
     ANSWER_IN, JOURNEY_IN, NODE_IN, POSITION_HIGH_IN, POSITION_IN, REGISTER_IN, SECRET_IN,
-    WRONG_WORK,
+    WRONG_WORK, words_of,
 };
 use layout::refusals::Refusal;
 use layout::{INPUT_BYTES, REGISTER_WORDS};
@@ -56,9 +57,9 @@ fn move_on(work: &mut [u32])
     requires work_bound { (work_of work.old).position < 4294967296 }
     ensures { work.new ≡ with_position work.old ((work_of work.old).position + 1) }
 {
-    let position = position_in(work) + 1;
-    work[POSITION_IN] = (position % 4294967296) as u32;
-    work[POSITION_HIGH_IN] = (position / 4294967296) as u32;
+    let [low, high] = words_of(position_in(work) + 1);
+    work[POSITION_IN] = low;
+    work[POSITION_HIGH_IN] = high;
 }
 
 // A number and not a Result, as in `answer` and `entry`: the C interface (`waggleloft_store`, `waggleloft_answer`,
@@ -79,6 +80,20 @@ pub fn store(work: &mut [u32], image: &mut [u32]) -> u32
     }
     move_on(work);
     0
+}
+
+// The number of a taking, and where nothing is refused its length.
+fn hand_on(taken: Result<usize, Refusal>, written: &mut usize) -> u32
+    ensures value { result ≡ told_number taken }
+    ensures written_after { written.new ≡ cond (eqb (told_number taken) 0) (taking_bytes taken) written.old }
+{
+    match taken {
+        Ok(length) => {
+            *written = length;
+            0
+        }
+        Err(refusal) => u32::from(refusal),
+    }
 }
 
 // What an answer's taking asks of the words: of the prepared ones the node's alone, and no input.
@@ -112,13 +127,7 @@ pub fn answer(work: &[u32], buffer: &mut [u8], written: &mut usize) -> u32
     if work.len() != WORK_WORDS {
         return WRONG_WORK;
     }
-    match answering(work).answer(buffer) {
-        Ok(n) => {
-            *written = n;
-            0
-        }
-        Err(refusal) => u32::from(refusal),
-    }
+    hand_on(answering(work).answer(buffer), written)
 }
 
 // The journal entry of the work that the words are.
@@ -140,11 +149,5 @@ pub fn entry(work: &[u32], buffer: &mut [u8], written: &mut usize) -> u32
     if work.len() != WORK_WORDS {
         return WRONG_WORK;
     }
-    match entry_from(work, buffer) {
-        Ok(length) => {
-            *written = length;
-            0
-        }
-        Err(refusal) => u32::from(refusal),
-    }
+    hand_on(entry_from(work, buffer), written)
 }

@@ -7,7 +7,7 @@ use flat::words::{
     ANSWER_IN, FIRST_IN, INPUTS_IN, LENGTH_IN, NODE_IN, POSITION_IN, SECOND_IN, SECRET_IN,
 };
 use layout::{ANSWER_MAX, INPUT_BYTES, NODE_WORDS};
-use packing::{byte_of, word};
+use packing::{byte_of, word, word_after};
 use table::Kind;
 use table::coding::{Coded, is_kind};
 
@@ -66,29 +66,21 @@ pub(crate) fn node_in(words: &[u32]) -> [u32; NODE_WORDS]
     out
 }
 
-// The bytes of the words from an index on, as many as there is room for.
-fn unpack(words: &[u32], at: usize, out: &mut [u8])
-    requires { at < work_size }
-    ensures { out.new ≡ bytes_at (length out.old) words.now at }
+// N bytes of the words from an index on.
+fn bytes_in<const N: usize>(words: &[u32], at: usize) -> [u8; N]
+    ensures { result ≡ bytes_at N words.now at }
 {
-    for k in 0..out.len() {
-        let w = word(words, at + k / 4);
-        out[k] = byte_of(w, k % 4);
-    }
+    std::array::from_fn(|k| byte_of(word_after(words, at, k / 4), k % 4))
 }
 
 pub(crate) fn answer_in(words: &[u32]) -> [u8; ANSWER_MAX]
     ensures { result ≡ (work_of words.now).answer }
 {
-    let mut out = [0u8; ANSWER_MAX];
-    unpack(words, ANSWER_IN, &mut out);
-    out
+    bytes_in(words, ANSWER_IN)
 }
 
 pub(crate) fn inputs_in(words: &[u32]) -> [u8; INPUT_BYTES]
     ensures { result ≡ (work_of words.now).inputs }
 {
-    let mut out = [0u8; INPUT_BYTES];
-    unpack(words, INPUTS_IN, &mut out);
-    out
+    bytes_in(words, INPUTS_IN)
 }

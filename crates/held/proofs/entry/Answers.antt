@@ -1,11 +1,11 @@
--- `entry` meets its contract, by the laws of Recorded: a return for a wrong length, an entry written, an entry refused. Assumes nothing.
+-- `entry` meets its contract, by the laws of Recorded: a return for a wrong length, and one for what is given. Assumes nothing.
 use native.Mathlib.Omega.{arith}
 use mathlib.Core.Path.{◌≡◌, ◌∙◌}
 use lib.ListN.{length}
 use borrow.Author.Tests.{ne_eqb}
 use Rattle.flat.specs.Flat.{work_size}
 use Rattle.flat.specs.Forms.{entry_number_in, entry_written, entry_buffer_in}
-use Rattle.held.proofs.Recorded.{taken_number, taken_written, refused_number, refused_kept, buffer_in_law}
+use Rattle.held.proofs.Recorded.{number_in, written_in, buffer_in_law}
 use Rattle.held.proofs.entry.Goals as goal
 
 pub returns-then-work-ne-WORK_WORDS : goal.returns-then-work-ne-WORK_WORDS
@@ -18,24 +18,14 @@ returns-then-work-ne-WORK_WORDS c =
       buffer_after = rw (ne_eqb (length c.args.work.now) work_size wrong);
     }
 
-pub returns-in-Ok : goal.returns-in-Ok
-returns-in-Ok c =
+pub returns : goal.returns
+returns c =
     let g = c.args in
     let l : length g.work.now ≡ work_size = omega arith in
-    let t = c.in-Ok in
+    let x = c.entry_from.result in
+    let e = c.entry_from.ensures in
     record {
-      value = taken_number g.work.now g.buffer.now l t.length t.ensures.value;
-      written_after = taken_written g.work.now g.buffer.now l t.length t.ensures.value _;
-      buffer_after = buffer_in_law g.work.now g.buffer.now l _ c.entry_from.ensures.buffer_after;
-    }
-
-pub returns-in-Err : goal.returns-in-Err
-returns-in-Err c =
-    let g = c.args in
-    let l : length g.work.now ≡ work_size = omega arith in
-    let t = c.in-Err in
-    record {
-      value = c.from.ensures ∙ refused_number g.work.now g.buffer.now l t.refusal t.ensures.value;
-      written_after = refused_kept g.work.now g.buffer.now l t.refusal t.ensures.value _;
-      buffer_after = buffer_in_law g.work.now g.buffer.now l _ c.entry_from.ensures.buffer_after;
+      value = c.hand_on.ensures.value ∙ number_in g.work.now g.buffer.now l x e.value;
+      written_after = c.hand_on.ensures.written_after ∙ written_in g.work.now g.buffer.now l x e.value _;
+      buffer_after = buffer_in_law g.work.now g.buffer.now _ l e.buffer_after;
     }

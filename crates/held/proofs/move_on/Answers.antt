@@ -4,4 +4,4 @@ use Rattle.held.proofs.move_on.Goals as goal
 
 pub returns : goal.returns
 unfolding with_position
-returns c = rw c.position_in-position.ensures
+returns c = rw (c.words_of.ensures, c.position_in.ensures)

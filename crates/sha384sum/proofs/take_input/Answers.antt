@@ -9,14 +9,14 @@ loop-i-init g c = (search rules, at_first _ _ c.begin-state.ensures)
 pub returns-in_err-feed-clause-too_long : goal.returns-in_err-feed-clause-too_long
 returns-in_err-feed-clause-too_long g c =
     λ _. refused _ _ (g.R.Read.remaining c.read_whole.new.reader) _ c.loop-i.state (take c.in_ok-n.n c.read_whole.new.buf) c.in_err-feed.field-0.0
-    c.loop-i.invariant.1 (search rules) c.in_err-feed.ensures.err c.in_ok-n.ensures.bytes
+    c.loop-i.invariant.1 (search rules) c.in_err-feed.ensures.err (search rules)
 
 pub returns-then-n-lt-SLICE-clause-digest : goal.returns-then-n-lt-SLICE-clause-digest
 returns-then-n-lt-SLICE-clause-digest g c =
     let after = g.R.Read.remaining c.read_whole.new.reader in
     ended _ after _ c.feed.new.self
     (accepted _ _ after _ c.loop-i.state (take c.in_ok-n.n c.read_whole.new.buf) c.feed.new.self c.loop-i.invariant.1 (search rules) c.in_ok-feed.ensures.ok
-    c.in_ok-n.ensures.bytes) (c.in_ok-n.ensures.end (search rules))
+    (search rules)) (search rules)
 
 pub loop-i-preserved : goal.loop-i-preserved
 loop-i-preserved g c =
@@ -24,5 +24,5 @@ loop-i-preserved g c =
     let full : length m ≡ 65280 = search rules in (
       search rules,
       one_more _ _ (g.R.Read.remaining c.read_whole.new.reader) _ _ c.loop-i.state m c.feed.new.self c.loop-i.invariant.1 (search rules)
-          c.in_ok-feed.ensures.ok c.in_ok-n.ensures.bytes (omega arith),
+          c.in_ok-feed.ensures.ok (search rules) (omega arith),
     )

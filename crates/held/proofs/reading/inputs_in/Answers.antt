@@ -4,4 +4,4 @@ use Rattle.held.proofs.reading.inputs_in.Goals as goal
 
 pub returns : goal.returns
 unfolding work_of
-returns c = c.unpack.ensures
+returns c = c.bytes_in.ensures
