@@ -4,8 +4,8 @@
 // they stand again only in specs/Figures.antt and on the bench cards, on which no law rests.
 #![tactic(auto)]
 
-pub mod geometry;
 pub mod bytes;
+pub mod geometry;
 pub mod refusals;
 pub mod registers;
 

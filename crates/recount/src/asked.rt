@@ -9,10 +9,10 @@ ghost use Rattle.recount.specs.Within.{without_caller, data_within};
 
 use journal_bytes::entry::{DIGEST_BYTES, EntryParts, LONGEST};
 use journal_bytes::write::write_entry;
+use layout::bytes::Bytes;
 use opening::commands::{
     BARE_LENGTH, DISABLE_CODE, EXTEND_CODE, EXTEND_LENGTH, INVOKE_CODE, STASH_CODE, STASH_LENGTH,
 };
-use layout::bytes::Bytes;
 use packing::four;
 
 // A request's checksum is in front, and its fields are behind it.
