@@ -1,11 +1,11 @@
 -- Stores of a state's parts, one behind the other. Assumes nothing.
 use mathlib.Core.Path.{◌≡◌, refl, sym, ap, ap₂, ◌∙◌}
-use mathlib.Core.List.{List, [], ◌∷◌, ◌++◌, append_assoc, append-nil}
-use Prim.Native.Nat.{ℕ, ◌+◌, ◌-◌, ◌*◌, ◌%◌, ◌≤◌, ◌<◌}
-use native.Mathlib.Numerals.{add-one}
+use mathlib.Core.List.{List, [], ◌∷◌, ◌++◌, append_assoc}
+use Rattle.std.specs.Prelude.{flat_map}
+use Prim.Native.Nat.{ℕ, suc, ◌+◌, ◌-◌, ◌*◌, ◌%◌, ◌<◌}
 use native.Mathlib.Omega.{arith}
-use lib.ListN.{length, take, drop, get_or, length-append, length-drop, drop_of_length-le}
-use lib.Seq.{sets, sets-eq, take_all, take-suc, drop-drop, length-take-le}
+use lib.ListN.{length, get_or, length-append}
+use lib.Seq.{sets}
 use native.Mathlib.Nat.{div-one}
 use Rattle.std.specs.Int.{w64, to_le_bytes}
 use Rattle.layout.specs.Words.{byte_of, bytes8}
@@ -26,17 +26,13 @@ pub length_long : (a : List ℕ) → length (long_bytes a) ≡ 8 * length a
 length_long [] = refl
 length_long (x ∷ a) = length-append (bytes8 x) (long_bytes a) ∙ omega (arith, length_long a)
 
--- one word more
-pub long_more : (l h o : List ℕ) (i k : ℕ) → k < length h → o ≡ sets l i (long_bytes (take k h))
-    → sets o (i + 8 * k) (bytes8 (get_or h k 0)) ≡ sets l i (long_bytes (take (k + 1) h))
-long_more l h o i k lt e =
-    let t = take k h in
-    let v = bytes8 (get_or h k 0) in
-    let n : length (long_bytes t) ≡ 8 * k = length_long t ∙ ap (λ (x : ℕ). 8 * x) (length-take-le k h (omega arith)) in
-    let more : long_bytes t ++ v ≡ long_bytes (take (k + 1) h) =
-    ap (λ (x : List ℕ). long_bytes t ++ x) (sym (append-nil v)) ∙ sym (long_append t (get_or h k 0 ∷ []))
-    ∙ ap long_bytes (sym (take-suc h k 0 lt) ∙ ap (λ (j : ℕ). take j h) (sym (add-one k))) in
-    ap₂ (λ (x : List ℕ) (j : ℕ). sets x (i + j) v) e (sym n) ∙ sets_join l i (long_bytes t) v ∙ ap (sets l i) more
+-- the words' bytes, lent one after another
+pub flattened : (h : List ℕ) (ys : List (List ℕ)) → length ys ≡ length h → ((i : ℕ) → i < length h → get_or ys i [] ≡ bytes8 (get_or h i 0))
+    → flat_map (λ x. x) ys ≡ long_bytes h
+flattened [] [] l e = refl
+flattened [] (y ∷ ys) l e = absurd (omega (arith, l))
+flattened (x ∷ h) [] l e = absurd (omega (arith, l))
+flattened (x ∷ h) (y ∷ ys) l e = ap₂ (λ a b. a ++ b) (e 0 (omega arith)) (flattened h ys (omega (arith, l)) (λ i b. e (suc i) (omega (arith, b))))
 
 -- the four parts make the whole
 pub state_placed : (st : Running) (l : List ℕ) {o1 o2 o3 o4 : List ℕ} → length l ≡ state_size → length st.buffer ≡ hash_in - buffer_in → length st.hash ≡ 8

@@ -1,8 +1,6 @@
 // A running state as bytes: total, number waiting, buffer, hash value; numbers are little endian.
-ghost use Rattle.std.specs.Prelude.{◌≡◌, ◌+◌, ◌≤◌, length};
-ghost use Rattle.std.proofs.lemmas.List.Edits.{sets};
-ghost use Rattle.layout.specs.Words.{bytes8};
-ghost use Rattle.running_bytes.specs.Coding.{state_size, hash_in, long_bytes, longs_at, state_bytes, state_at};
+ghost use Rattle.std.specs.Prelude.{◌≡◌, length};
+ghost use Rattle.running_bytes.specs.Coding.{state_size, hash_in, longs_at, state_bytes, state_at};
 
 use running::Running;
 use slices::little_endian::read64;
@@ -22,16 +20,7 @@ pub const STATE_BYTES: usize = 208;
 fn hash_in(state: &[u8]) -> [u64; 8]
     ensures { result ≡ longs_at 8 state.now hash_in }
 {
-    [
-        read64(state, HASH_IN),
-        read64(state, HASH_IN + 8),
-        read64(state, HASH_IN + 16),
-        read64(state, HASH_IN + 24),
-        read64(state, HASH_IN + 32),
-        read64(state, HASH_IN + 40),
-        read64(state, HASH_IN + 48),
-        read64(state, HASH_IN + 56),
-    ]
+    std::array::from_fn(|k| read64(state, HASH_IN + 8 * k))
 }
 
 // The state that the bytes are.
@@ -50,31 +39,14 @@ pub(crate) fn state_of(state: &[u8]) -> Running
     }
 }
 
-// Writes the eight bytes of a number.
-fn put64(out: &mut [u8], at: usize, x: u64)
-    requires { at + 8 ≤ length out.old }
-    ensures { out.new ≡ sets out.old at (bytes8 x) }
-{
-    out[at..at + 8].copy_from_slice(&x.to_le_bytes());
-}
-
-// Writes the words of a hash value at their place.
-fn put_hash(out: &mut [u8], hash: &[u64; 8])
-    requires { length out.old ≡ state_size }
-    ensures { out.new ≡ sets out.old hash_in (long_bytes hash.now) }
-{
-    for (k, word) in hash.iter().enumerate() {
-        put64(out, HASH_IN + 8 * k, *word);
-    }
-}
-
 // Writes a state.
 pub(crate) fn put_state(state: &Running, out: &mut [u8])
     requires { length out.old ≡ state_size }
     ensures { out.new ≡ state_bytes state.now }
 {
-    put64(out, TOTAL_IN, state.total);
-    put64(out, WAITING_IN, state.waiting);
+    let words = state.hash.map(u64::to_le_bytes);
+    out[TOTAL_IN..WAITING_IN].copy_from_slice(&state.total.to_le_bytes());
+    out[WAITING_IN..BUFFER_IN].copy_from_slice(&state.waiting.to_le_bytes());
     out[BUFFER_IN..HASH_IN].copy_from_slice(&state.buffer);
-    put_hash(out, &state.hash);
+    out[HASH_IN..STATE_BYTES].copy_from_slice(words.as_flattened());
 }

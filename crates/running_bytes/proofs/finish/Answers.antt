@@ -1,6 +1,6 @@
 -- `running_bytes::finish` meets its contract: a return for each refusal in order; the copy of 48 bytes over the front of the buffer is the digest
 -- before what was behind it. Assumes nothing.
-use Rattle.std.proofs.Common.{◌≡◌, List, ℕ, ◌++◌, length, drop, refl, sym, ap, ◌∙◌, arith, rules, length-take-le}
+use Rattle.std.proofs.Common.{◌≡◌, List, ℕ, ◌++◌, length, drop, refl, sym, ap, ◌∙◌, rules, length-take-le}
 use borrow.Author.Tests.{eq-eqb, ne_eqb, lt-ltb, le-ltb}
 use Rattle.sha384.proofs.Refused.{error_not_zero}
 use Rattle.running.specs.Running.{finish_result}
