@@ -35,7 +35,7 @@ fn node_at(i: usize) -> usize
 // Stash: mark 0; PCR31; the new node; the old holder's five handle words; mark 1.
 pub(crate) const STASH_STORES: usize = MARKS + REGISTER_WORDS + NODE_WORDS + HANDLE_WORDS;
 
-pub(crate) fn stash_put<'a>(at: StashAt, register: &'a [u32], node: &'a [u32], k: usize) -> Put
+pub(crate) fn stash_put(at: StashAt, register: &[u32], node: &[u32], k: usize) -> Put
     requires node_lt_node_count { at.node < node_count }
     requires holder_lt_node_count { at.holder < node_count }
     ensures value { result ≡ put_from 0 (stash_runs at register.now node.now) k }
@@ -112,7 +112,7 @@ pub(crate) fn cold_put(words: &Prepared, k: usize) -> Put
 // Extension: mark 0; the register; mark 1.
 pub(crate) const EXTENSION_STORES: usize = MARKS + REGISTER_WORDS;
 
-pub(crate) fn extension_put<'a>(at: usize, register: &'a [u32], k: usize) -> Put
+pub(crate) fn extension_put(at: usize, register: &[u32], k: usize) -> Put
     requires at_le_extend_last { at ≤ extend_last }
     ensures value { result ≡ put_from 0 (extension_runs at register.now) k }
     ensures address_lt_image_words { result.address < image_words }
@@ -134,7 +134,7 @@ pub(crate) const EXTEND_STORES: usize = MARKS + EXTEND_WORDS;
 
 pub(crate) const ROTATE_STORES: usize = MARKS + HANDLE_WORDS;
 
-pub(crate) fn part_put<'a>(i: usize, from: usize, words: usize, node: &'a [u32], k: usize) -> Put
+pub(crate) fn part_put(i: usize, from: usize, words: usize, node: &[u32], k: usize) -> Put
     requires i_lt_node_count { i < node_count }
     requires words_bound { from + words ≤ node_words }
     ensures value { result ≡ put_from 0 (part_runs i from words node.now) k }
@@ -150,7 +150,7 @@ pub(crate) fn part_put<'a>(i: usize, from: usize, words: usize, node: &'a [u32],
 // Derive without retain: mark 0; the new node; the parent's five handle words; mark 1.
 pub(crate) const REPLACE_STORES: usize = MARKS + NODE_WORDS + HANDLE_WORDS;
 
-pub(crate) fn replace_put<'a>(at: StashAt, node: &'a [u32], k: usize) -> Put
+pub(crate) fn replace_put(at: StashAt, node: &[u32], k: usize) -> Put
     requires node_lt_node_count { at.node < node_count }
     requires holder_lt_node_count { at.holder < node_count }
     ensures value { result ≡ put_from 0 (replace_runs at node.now) k }
@@ -178,7 +178,7 @@ pub(crate) fn destroy_stores(count: usize) -> usize
     0
 }
 
-pub(crate) fn destroy_put<'a>(count: usize, freed: &'a [u32], k: usize) -> Put
+pub(crate) fn destroy_put(count: usize, freed: &[u32], k: usize) -> Put
     requires count_le_node_count { count ≤ node_count }
     requires node_count_value { all_below count (λ j. ltb (get_or freed.now j 0) node_count) ≡ true }
     ensures value { result ≡ put_from 0 (destroy_runs count freed.now) k }

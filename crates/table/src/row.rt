@@ -8,7 +8,7 @@ use crate::{NO_STORE, Put};
 use layout::{NODE_WORDS, NODES_AT};
 use packing::word;
 
-// How many stores of the fields to come are before the one that is looked for, until its field is passed; then that store.
+// How many stores of the fields to come are before the one that is looked for; once its field is passed, that store.
 #[derive(Clone, Copy)]
 pub(crate) struct Row {
     before: usize,
@@ -32,7 +32,7 @@ impl Row {
         }
     }
 
-    // Past a field of so many stores.
+    // Past a field of so many stores, which `store` tells by their numbers in it.
     #[inline(always)]
     fn field<F: FnOnce(usize) -> Put>(self, count: usize, store: F) -> Row
         requires may_call { (i : ℕ) → i < count → F.pre store i }
