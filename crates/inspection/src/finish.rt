@@ -10,7 +10,7 @@ use crate::reader::{IMAGE_BYTES, Reader};
 use layout::bytes::Bytes;
 use layout::refusals::Refusal;
 use layout::{ATTESTATION_AT, IMAGE_WORDS, MARK_AT, PCR2_AT, REGISTER_WORDS, REGISTERS};
-use packing::{byte_of, word};
+use packing::{byte_of, four, word};
 use slices::little_endian::read32;
 
 // Registers and nodes are compared from PCR2 on, to the image's end.
@@ -24,23 +24,14 @@ const REGISTER_BYTES: usize = 4 * REGISTER_WORDS * (REGISTERS - 2);
 // The most bytes: with a verdict's byte between those.
 pub const TOLD_MAX: usize = HEAD_BYTES + 1 + REGISTER_BYTES;
 
+// A number and an offset, little endian.
 fn head(number: u32, offset: usize) -> [u8; HEAD_BYTES]
     ensures { result ≡ bytes4 number ++ bytes8 offset }
 {
-    [
-        (number % 256) as u8,
-        (number / 0x100 % 256) as u8,
-        (number / 0x10000 % 256) as u8,
-        (number / 0x1000000 % 256) as u8,
-        (offset % 256) as u8,
-        (offset / 0x100 % 256) as u8,
-        (offset / 0x10000 % 256) as u8,
-        (offset / 0x1000000 % 256) as u8,
-        (offset / 0x100000000 % 256) as u8,
-        (offset / 0x10000000000 % 256) as u8,
-        (offset / 0x1000000000000 % 256) as u8,
-        (offset / 0x100000000000000 % 256) as u8,
-    ]
+    let mut out = [0u8; HEAD_BYTES];
+    out[..4].copy_from_slice(&four(number));
+    out[4..].copy_from_slice(&(offset as u64).to_le_bytes());
+    out
 }
 
 fn joined(front: [u8; HEAD_BYTES], back: &[u8]) -> Bytes<TOLD_MAX>
