@@ -85,6 +85,7 @@ pub fn open_cold_boot(
 }
 
 // Boots an image cold: opens the boot and makes all its stores. Refused, it stores nothing.
+// (kept: loose inputs, as `open_cold_boot` takes them, which it hands them on to as they are)
 pub fn boot_cold(
     image: &mut [u32],
     runtime: &[u8],
