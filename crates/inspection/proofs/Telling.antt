@@ -1,11 +1,11 @@
 -- What is told: bytes joined in their array, and the verdict by cases. Assumes nothing.
 use Prim.Native.Nat.{ℕ, suc, ◌+◌, ◌-◌, ◌≤◌, ◌<◌}
 use mathlib.Core.Path.{◌≡◌, sym, ap, ap₂, ◌∙◌}
-use mathlib.Core.List.{List, ◌∷◌, ◌++◌, append_assoc, append-nil}
+use mathlib.Core.List.{List, ◌∷◌, ◌++◌, append_assoc}
 use native.Mathlib.Omega.{arith}
-use lib.ListN.{length, take, drop, set, replicate, length-append, length-replicate}
-use lib.Seq.{take_all, take_at, drop_at, take-suc-set}
-use borrow.Rule.Slice.PartMut.{mid_of, put_mid}
+use lib.ListN.{length, take, drop, set, replicate, length-append}
+use lib.Seq.{take_at, drop_at, take-suc-set}
+use borrow.Rule.Slice.PartMut.{put_mid}
 use Rattle.layout.specs.Words.{tab, zeros}
 use Rattle.layout.proofs.Tab.{drop_zeros}
 use Rattle.inspection.specs.declared.finish.Told.{Told}

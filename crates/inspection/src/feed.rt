@@ -4,7 +4,7 @@ ghost use Rattle.journal.specs.Entries.{longest};
 ghost use Rattle.journal_bytes.specs.Results.{entry_in};
 ghost use Rattle.recount.specs.OnImage.{made_on};
 ghost use Rattle.replaying.specs.Report.{journal_max};
-ghost use Rattle.inspection.specs.Stages.{reader_of, stage_of, counted_with, journal_byte, one_byte, fed_with};
+ghost use Rattle.inspection.specs.Stages.{stage_of, counted_with, journal_byte, one_byte, fed_with};
 
 use crate::reader::{IMAGE_BYTES, JOURNAL_MAX, Reader};
 use journal_bytes::entry::{EntryParts, LONGEST};

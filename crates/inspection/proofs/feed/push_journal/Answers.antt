@@ -1,6 +1,6 @@
 -- The tests in the order of the definition, and what reading the entry's bytes so far tells.
 use Prim.Native.Nat.{ℕ, ◌+◌, ◌≤◌, ◌<◌}
-use mathlib.Core.Path.{◌≡◌, refl, sym, ap, ◌∙◌}
+use mathlib.Core.Path.{◌≡◌, refl, sym, ◌∙◌}
 use mathlib.Core.Bool.{true, false}
 use native.Mathlib.Omega.{arith}
 use borrow.Author.Tests.{le-leb, lt-leb}
@@ -8,7 +8,6 @@ use Rattle.std.specs.Option.{is_some}
 use Rattle.layout.specs.Refusals.{cut_entry}
 use Rattle.journal.specs.Entries.{longest}
 use Rattle.replaying.specs.Report.{journal_max}
-use Rattle.inspection.specs.declared.reader.Reader.{Reader}
 use Rattle.inspection.specs.Stages.{Stage, stage_of, refused_with, so_far, journal_byte}
 use Rattle.inspection.proofs.Reading.{read_waits, read_refuses, read_counts, reads_on}
 use Rattle.inspection.proofs.feed.push_journal.Goals as goal
