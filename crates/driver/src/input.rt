@@ -77,8 +77,8 @@ impl<'a> Input<'a> {
         Some(front)
     }
 
-    // The next N bytes.
-    fn bytes<const N: usize>(&mut self) -> Option<[u8; N]>
+    // The next N bytes: a number's, which `from_le_bytes` reads.
+    fn take<const N: usize>(&mut self) -> Option<[u8; N]>
         ensures { OnSome result (length self.new.rest.now + N ≤ length self.old.rest.now) }
     {
         let (front, rest) = self.rest.split_first_chunk::<N>()?;
@@ -86,52 +86,19 @@ impl<'a> Input<'a> {
         Some(*front)
     }
 
-    fn u8(&mut self) -> Option<u8>
-        ensures { OnSome result (length self.new.rest.now < length self.old.rest.now) }
-    {
-        let [byte] = self.bytes::<1>()?;
-        Some(byte)
-    }
-
-    fn u16(&mut self) -> Option<u16>
-        ensures { OnSome result (length self.new.rest.now ≤ length self.old.rest.now) }
-    {
-        Some(u16::from_le_bytes(self.bytes()?))
-    }
-
-    fn u32(&mut self) -> Option<u32>
-        ensures { OnSome result (length self.new.rest.now ≤ length self.old.rest.now) }
-    {
-        Some(u32::from_le_bytes(self.bytes()?))
-    }
-
-    fn u64(&mut self) -> Option<u64>
-        ensures { OnSome result (length self.new.rest.now ≤ length self.old.rest.now) }
-    {
-        Some(u64::from_le_bytes(self.bytes()?))
-    }
-
     // A byte string after its length, two bytes.
     fn string(&mut self) -> Option<&'a [u8]>
         ensures { OnSome result (length self.new.rest.now ≤ length self.old.rest.now) }
     {
-        let n = self.u16()?;
+        let n = u16::from_le_bytes(self.take()?);
         self.slice(usize::from(n))
-    }
-
-    // A longer one, after its length in four bytes.
-    fn long_string(&mut self) -> Option<&'a [u8]>
-        ensures { OnSome result (length self.new.rest.now ≤ length self.old.rest.now) }
-    {
-        let n = self.u32()?;
-        self.slice(n as usize)
     }
 
     // An image after its word count. One that is too long is none.
     fn image(&mut self) -> Option<Image<'a>>
         ensures { OnSome result (length self.new.rest.now ≤ length self.old.rest.now) }
     {
-        let count = self.u32()? as usize;
+        let count = u32::from_le_bytes(self.take()?) as usize;
         if count > MEMORY_WORDS {
             return None;
         }
@@ -154,7 +121,7 @@ impl<'a> Input<'a> {
     fn verdict(&mut self) -> Option<bool>
         ensures { OnSome result (length self.new.rest.now ≤ length self.old.rest.now) }
     {
-        Some(self.u8()? == 1)
+        Some(u8::from_le_bytes(self.take()?) == 1)
     }
 
     fn cold_boot(&mut self) -> Option<Act<'a>>
@@ -187,8 +154,8 @@ impl<'a> Input<'a> {
     fn request(&mut self) -> Option<Act<'a>>
         ensures { OnSome result (length self.new.rest.now ≤ length self.old.rest.now) }
     {
-        let code = self.u32()?;
-        let caller = self.u32()?;
+        let code = u32::from_le_bytes(self.take()?);
+        let caller = u32::from_le_bytes(self.take()?);
         let verdict = self.verdict()?;
         let handoff = self.string()?;
         let bytes = self.string()?;
@@ -210,7 +177,7 @@ impl<'a> Input<'a> {
     fn taking(&mut self, op: Op) -> Option<Act<'a>>
         ensures { OnSome result (length self.new.rest.now ≤ length self.old.rest.now) }
     {
-        let size = self.u16()?;
+        let size = u16::from_le_bytes(self.take()?);
         Some(Act { size, ..bare(op) })
     }
 
@@ -219,23 +186,33 @@ impl<'a> Input<'a> {
     pub(crate) fn next(&mut self) -> Option<Operation<'a>>
         ensures { OnSome result (length self.new.rest.now < length self.old.rest.now) }
     {
-        let letter = self.u8()?;
+        let letter = u8::from_le_bytes(self.take()?);
         Some(match letter {
             b'I' => Operation::Lend(self.image()?),
             b'C' => Operation::Act(self.cold_boot()?),
             b'U' => Operation::Act(self.update_boot()?),
             b'R' => Operation::Act(self.request()?),
-            b'S' => Operation::Stores(self.u32()?),
+            b'S' => Operation::Stores(u32::from_le_bytes(self.take()?)),
             b'A' => Operation::Act(self.taking(Op::Answer)?),
             b'J' => Operation::Act(self.taking(Op::Entry)?),
             b'L' => Operation::Left,
             b'X' => Operation::Act(bare(Op::PowerCut)),
-            b'W' => Operation::Set(self.u8()?, self.u64()?),
+            b'W' => Operation::Set(
+                u8::from_le_bytes(self.take()?),
+                u64::from_le_bytes(self.take()?),
+            ),
             b'D' => Operation::Dump,
             b'b' => Operation::Begin,
-            b'f' => Operation::Feed(self.long_string()?),
+            b'f' => {
+                // A slice's length has four bytes.
+                let n = u32::from_le_bytes(self.take()?);
+                Operation::Feed(self.slice(n as usize)?)
+            }
             b'e' => Operation::Finish,
-            b'w' => Operation::SetCount(self.u8()?, self.u64()?),
+            b'w' => Operation::SetCount(
+                u8::from_le_bytes(self.take()?),
+                u64::from_le_bytes(self.take()?),
+            ),
             _ => return None,
         })
     }

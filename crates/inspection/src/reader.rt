@@ -14,6 +14,7 @@ pub const JOURNAL_MAX: usize = 0x100000000;
 
 // `seen` counts the saved image's bytes. `refusal` is an entry's, which stays; `offset` is where the refused
 // entry, or the one that waits, begins in the journal, and `held` bytes of it are in `waiting`.
+// (kept: a buffer with its count, as there is no heap; the definitions take the reader as this record)
 #[derive(Clone, Copy)]
 pub struct Reader {
     pub seen: usize,

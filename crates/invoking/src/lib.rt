@@ -34,6 +34,7 @@ pub struct Planned {
 }
 
 // The node that holds a handle; the number of nodes where none does.
+// (kept: a number and no `Option`, as a tree command has a work at that index too)
 fn named(image: &[u32], handle: [u8; HANDLE_BYTES]) -> usize
     ensures value { result ≡ node_with node_count (tree_in image.now) (handle_row handle) }
     ensures upper_bound { result ≤ node_count }

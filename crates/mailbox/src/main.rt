@@ -15,6 +15,8 @@ use std::io::{Read, Write};
 use std::{fmt, io};
 
 // Why an exchange failed.
+// (kept: the driver's and `replay`'s errors have the same two cases, but each program has messages of its own, and one
+// enum has one `Display`)
 #[derive(Clone, Copy, Debug, PartialEq, Eq)]
 enum ExchangeError {
     Unread,

@@ -15,6 +15,7 @@ pub const LONGEST_TOTAL: u64 = 0xFFFFFFFF;
 
 // `total` counts the bytes taken, `waiting` those past the last whole block, which are the first of
 // `buffer`; `hash` is the hash value after the whole blocks.
+// (kept: a buffer with its count, as there is no heap; the definitions take the state as this record)
 #[derive(Clone, Copy)]
 pub struct Running {
     pub total: u64,

@@ -28,6 +28,7 @@ impl Coded {
     }
 }
 
+// (kept: a function beside `From`, as `decode`: both are total over the numbers that C holds, whatever they are)
 #[tactic(auto, unfolding(crate::specs::Coding::coded_of))]
 pub fn encode(kind: Kind) -> Coded
     ensures { result ≡ coded_of kind }

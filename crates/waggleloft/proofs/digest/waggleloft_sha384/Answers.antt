@@ -1,6 +1,6 @@
 -- `waggleloft_sha384` meets its contract: the copy of 48 bytes over the front of the buffer is the
 -- digest before what was behind it. Assumes nothing.
-use Rattle.std.proofs.Common.{◌≡◌, ◌≤◌, ℕ, List, ◌++◌, length, drop, refl, sym, ap, ◌∙◌, arith, rules, length-take-le}
+use Rattle.std.proofs.Common.{◌≡◌, ℕ, List, ◌++◌, length, drop, refl, sym, ap, ◌∙◌, rules, length-take-le}
 use borrow.Author.Tests.{lt-ltb, le-ltb}
 use Rattle.sha384.specs.Entries.{longest}
 use Rattle.sha384.proofs.Sizes.{digest_told, digest_refused}
