@@ -107,6 +107,7 @@ fn count_fresh(image: &mut [u32], entry: EntryParts) -> bool
 }
 
 // Counts an entry on an image, and says whether the unit could have counted it there; if not, no word is stored.
+// (kept: a bool and no `Result`, as the unit's own refusal is not the journal's, whose one number for it the caller gives)
 pub fn count(image: &mut [u32], entry: EntryParts) -> bool
     ensures value { result ≡ is_made (made_on image.old (entry_in entry)) }
     ensures image_after { image.new ≡ image_after (made_on image.old (entry_in entry)) image.old }
