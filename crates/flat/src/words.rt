@@ -49,14 +49,14 @@ pub fn words_of(n: usize) -> [u32; 2]
 }
 
 // The first nine words: the kind's number, and the two words of each number after it.
-fn head_of(kind: Kind, position: usize, answer_len: usize) -> [u32; REGISTER_IN]
-    ensures { result ≡ head_of (standing kind position answer_len []) }
+fn head_of(w: &Work) -> [u32; REGISTER_IN]
+    ensures { result ≡ head_of (standing w.now.kind w.now.position w.now.answer_len []) }
 {
-    let coded = Coded::from(kind);
+    let coded = Coded::from(w.kind);
     let [first, first_high] = words_of(coded.first);
     let [second, second_high] = words_of(coded.second);
-    let [position, position_high] = words_of(position);
-    let [length, length_high] = words_of(answer_len);
+    let [position, position_high] = words_of(w.position);
+    let [length, length_high] = words_of(w.answer_len);
     [
         coded.number,
         first,
@@ -103,8 +103,7 @@ pub(crate) fn write_work(w: Work, out: &mut [u32])
     ensures out_after { out.new ≡ work_words w }
     ensures out_after_2 { work_of out.new ≡ w }
 {
-    let kind = w.kind;
-    let head = head_of(kind, w.position, w.answer_len);
+    let head = head_of(&w);
     for k in 0..WORK_WORDS {
         out[k] = row_word(&head, &w, k);
     }

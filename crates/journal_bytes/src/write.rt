@@ -19,6 +19,7 @@ fn put_number(out: &mut [u8], at: usize, x: u32) -> usize
     ensures upper_bound { result ≤ at + 5 }
 {
     let mut v = x;
+    // No `for`: the number is divided until one group is left.
     let mut i = at;
     while 128 <= v {
         out[i] = (128 + v % 128) as u8;

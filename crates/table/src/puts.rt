@@ -24,6 +24,8 @@ const ON: u32 = 1;
 const MARKS: usize = 2;
 
 // Where a node begins.
+// (kept: the index's bound stands as a clause of this, `part_put` and `Row::part`: a kind holds plain indices, which C gives and
+// `index_ok` tests once)
 #[inline(always)]
 fn node_at(i: usize) -> usize
     requires { i < node_count }

@@ -19,7 +19,7 @@ use table::{Kind, Prepared};
 // or a derived child, a boot's root, or the node of an extend or a rotate as it will be; a destroy has its
 // indices there, and every tree command its caller in the locality's word. `position` counts the stores made.
 // `inputs` are a boot's two digests, or the one digest and zeros; a tree command has its handle and its fresh
-// one behind the first digest.
+// one behind the first digest. The answer is a buffer with its length: no heap, and C holds a work as these words.
 #[derive(Clone, Copy)]
 pub struct Work {
     pub kind: Kind,
