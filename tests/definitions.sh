@@ -63,7 +63,8 @@ try() { # EDIT
     copy "$1" "$tree" || return 0
     below=$(check "$tree" "$home" "$log.home")
     above=$(check "$tree" "$crate" "$log")
-    rm -rf "$tree"
+    # Renamed first: rt takes a library from whichever copy has it, and is not to find one that is half removed.
+    mv "$tree" "$tree.tried" && rm -rf "$tree.tried"
     if [ "$below" != "0 $home" ]; then
         echo "$home is not proved, status and crate $below: $(grep -m 1 'error' "$log.home" || tail -n 1 "$log.home")"
     elif [ "$above" = "1 $crate" ] && is_refused "$log"; then
