@@ -53,7 +53,8 @@ fn answer<W: Write>(input: &[u8], out: &mut W) -> io::Result<()>
     ensures { OnOk result (Appends (W.contents out.old) (W.contents out.new) (program_output input.now)) }
 {
     let response = respond(input);
-    out.write_all(&response.bytes[..response.len])
+    let bytes = response.bytes;
+    out.write_all(&bytes[..response.len])
 }
 
 // Reads a code and a request, and answers them.

@@ -9,6 +9,7 @@ use layout::refusals::Refusal;
 use table::Kind;
 use work::Work;
 
+#[inline(never)]
 pub(crate) fn serve_disable(image: &[u32]) -> Result<Work, Refusal>
     ensures { result ≡ screened_opened disable_attestation image.now (request_of disable_code [] 0 [] false []) }
 {

@@ -56,6 +56,7 @@ fn accepted(image: &[u32], bytes: &[u8], register: usize) -> Work
 }
 
 // The command, once length and checksum are fine.
+#[inline(never)]
 pub(crate) fn serve_extend(image: &[u32], bytes: &[u8]) -> Result<Work, Refusal>
     requires { (length image.now ≡ image_words) × (length bytes.now ≡ extend_length) }
     ensures { result ≡ screened_opened extend_register image.now (request_of extend_code bytes.now 0 [] false []) }

@@ -28,6 +28,7 @@ fn handoff_ok(h: &[u8]) -> bool
     h.len() == TABLE_BYTES && read32(h, 0) == TABLE_MARKER && read16(h, 4) == TABLE_VERSION
 }
 
+#[inline(never)]
 pub(crate) fn serve_identity(image: &[u32], handoff: &[u8]) -> Result<Work, Refusal>
     ensures { result ≡ screened_opened identity_key image.now (request_of identity_code [] 0 handoff.now false []) }
 {

@@ -51,6 +51,7 @@ fn accepted(image: &[u32], order: Order, fresh: &[u8], caller: u32) -> Work
 }
 
 // The command, once length and checksum are fine.
+#[inline(never)]
 pub(crate) fn serve_invoke(
     image: &[u32],
     bytes: &[u8],

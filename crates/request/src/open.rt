@@ -19,7 +19,8 @@ use opening::Opened;
 use opening::inputs::RequestInputs;
 use work::Work;
 
-// What the command answers once the screen has passed.
+// What the command answers once the screen has passed. Each is a call of its own (`inline(never)`): in line, an opening would take
+// the stack of all six (bench/stack).
 fn serve(command: Command, image: &[u32], lent: RequestInputs) -> Result<Work, Refusal>
     requires { (length image.now ≡ image_words) × ((row_of command).length_ok lent.bytes.now ≡ true) }
     ensures { result ≡ screened_opened (row_of command) image.now (request_in lent.entry) }

@@ -74,6 +74,7 @@ fn accepted(image: &[u32], bytes: &[u8], caller: u32, node: usize, holder: usize
 }
 
 // The command, once length and checksum are fine.
+#[inline(never)]
 pub(crate) fn serve_stash(image: &[u32], bytes: &[u8], caller: u32) -> Result<Work, Refusal>
     requires { (length image.now ≡ image_words) × (length bytes.now ≡ stash_length) }
     ensures { result ≡ screened_opened stash_measurement image.now (request_of stash_code bytes.now caller [] false []) }

@@ -9,6 +9,7 @@ use layout::refusals::Refusal;
 use table::Kind;
 use work::Work;
 
+#[inline(never)]
 pub(crate) fn serve_verify(image: &[u32], verdict: bool) -> Result<Work, Refusal>
     ensures { result ≡ screened_opened verify_signature image.now (request_of verify_code [] 0 [] verdict []) }
 {
