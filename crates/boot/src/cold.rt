@@ -1,9 +1,10 @@
 // A cold boot: the same work whatever the image holds.
-ghost use Rattle.std.specs.Prelude.{◌≡◌};
+ghost use Rattle.std.specs.Prelude.{◌≡◌, Ok};
+ghost use Rattle.std.specs.Result.{result_and};
 ghost use Rattle.opening.specs.Tasks.{boot_of};
 ghost use Rattle.opening.specs.Lent.{boot_in};
 ghost use Rattle.opening.specs.Works.{cold_values};
-ghost use Rattle.opening.specs.Openings.{status_number, boot_number, outcome_in, open_cold_boot, cold_booted, done_by};
+ghost use Rattle.opening.specs.Openings.{status_number, boot_number, outcome_in, open_cold_boot, cold_booted};
 ghost use Rattle.boot.specs.Given.{given, cold_ruled};
 
 use crate::inputs::{Inputs, digests_of, extend_by_boot};
@@ -92,7 +93,7 @@ pub fn boot_cold(
     manifest: &[u8],
     secret: &[u8],
 ) -> Result<(), Refusal>
-    ensures value { result ≡ done_by (open_cold_boot image.old (boot_of runtime.now manifest.now secret.now)).status }
+    ensures value { result ≡ result_and (open_cold_boot image.old (boot_of runtime.now manifest.now secret.now)).status (Ok tt) }
     ensures number_value { status_number result ≡ boot_number (open_cold_boot image.old (boot_of runtime.now manifest.now secret.now)).status }
     ensures image_after { image.new ≡ cold_booted image.old (boot_of runtime.now manifest.now secret.now) }
 {

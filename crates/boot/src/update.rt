@@ -13,7 +13,10 @@ use crate::inputs::{Inputs, digests_of, extend_by_boot};
 use crate::ready::ready_with;
 use crate::screen::screened;
 use layout::refusals::Refusal;
-use layout::{ATTESTATION_AT, CURRENT_AT, MARK_AT, NODE_WORDS, NODES_AT, PCR3_AT, REGISTER_WORDS};
+use layout::{
+    ATTESTATION_AT, CUMULATIVE_AT, CURRENT_AT, MARK_AT, NODE_WORDS, NODES_AT, PCR3_AT,
+    REGISTER_WORDS,
+};
 use making::{Values, bare_work};
 use opening::extended::extended_row;
 use opening::inputs::BootInputs;
@@ -54,7 +57,8 @@ fn update_values(image: &[u32], root: usize, x: Inputs) -> Values
     let journey = extend_by_boot(bytes_in(image, PCR3_AT), x);
     let register = pack(&current, 0);
     let words = pack(&journey, 0);
-    let node = extended_row(image, root, journey);
+    let before = bytes_in(image, NODES_AT + NODE_WORDS * root + CUMULATIVE_AT);
+    let node = extended_row(before, journey);
     let secret = x.secret;
     let kept = pack(&secret, 0);
     let inputs = digests_of(x);

@@ -18,11 +18,12 @@ ghost use Rattle.invoking.specs.Planned.{planned_of};
 use crate::inputs::{fresh_bytes, inputs_of};
 use crate::rows::{child_row, with_caller};
 use journal_bytes::read::DeriveFields;
-use layout::{HANDLE_BYTES, INPUT_BYTES, NODE_WORDS, REGISTER_WORDS};
+use layout::{CUMULATIVE_AT, HANDLE_BYTES, INPUT_BYTES, NODE_WORDS, NODES_AT, REGISTER_WORDS};
 use making::{Values, no_values};
 use nodes::{handle_row, handle_words};
 use opening::extended::extended_row;
 use orders::Order;
+use packing::bytes_in;
 use table::{Kind, StashAt};
 use tree::freed::freed_by;
 use tree::index::{free_index, handle_index};
@@ -86,7 +87,8 @@ fn plan_extend(image: &[u32], handle: [u8; HANDLE_BYTES], digest: [u8; 48], call
     ensures { result ≡ planned_of (extend handle digest) [] caller image.now }
 {
     let i = named(image, handle);
-    let row = with_caller(extended_row(image, i, digest), caller);
+    let before = bytes_in(image, NODES_AT + NODE_WORDS * i + CUMULATIVE_AT);
+    let row = with_caller(extended_row(before, digest), caller);
     let values = node_values(row, inputs_of(digest, handle, [0u8; HANDLE_BYTES]));
     Planned {
         kind: Kind::Extend(i),

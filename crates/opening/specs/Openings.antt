@@ -99,8 +99,3 @@ stored_by image w (Err r) = image
 
 unfoldable pub cold_booted : List ℕ → BootInputs → List ℕ
 cold_booted image x = let b = open_cold_boot image x in stored_by image b.work b.status
-
--- and what is told of it
-abbrev pub done_by : Result Outcome Refusal → Result ⊤ Refusal
-done_by (Ok o) = Ok tt
-done_by (Err r) = Err r

@@ -1,21 +1,15 @@
 // A node extended by a digest: the root by an update boot, any other by a tree command.
-ghost use Rattle.std.specs.Prelude.{◌≡◌, ◌≤◌};
-ghost use Rattle.layout.specs.Sizes.{node_count};
-ghost use Rattle.layout.specs.Words.{bytes48};
+ghost use Rattle.std.specs.Prelude.{◌≡◌};
 ghost use Rattle.sha384.specs.Entries.{extended};
-ghost use Rattle.tree.specs.Nodes.{cumulative_in};
 ghost use Rattle.nodes.specs.Record.{measurements_row};
 
-use layout::{CUMULATIVE_AT, NODE_WORDS, NODES_AT};
+use layout::NODE_WORDS;
 use nodes::measurements_row;
-use packing::bytes_in;
 use sha384::digest::extend;
 
-// The words of a node's measurements once it is extended by a digest: the digest, and the cumulative one extended.
-pub fn extended_row(image: &[u32], i: usize, digest: [u8; 48]) -> [u32; NODE_WORDS]
-    requires { i ≤ node_count }
-    ensures { result ≡ measurements_row digest (extended (bytes48 (cumulative_in image.now i)) digest) }
+// The words of a node's measurements once its cumulative one is extended by a digest: the digest, and the extended one.
+pub fn extended_row(before: [u8; 48], digest: [u8; 48]) -> [u32; NODE_WORDS]
+    ensures { result ≡ measurements_row digest (extended before digest) }
 {
-    let before = bytes_in(image, NODES_AT + NODE_WORDS * i + CUMULATIVE_AT);
     measurements_row(digest, extend(before, digest))
 }

@@ -8,13 +8,14 @@ use native.Mathlib.Omega.{arith}
 use borrow.Author.Tests.{eqb-true, ltb-true, eq-eqb}
 use lib.Dec.{eqb, ltb}
 use lib.ListN.{length, set}
+use Rattle.std.specs.Result.{result_and}
 use Rattle.std.proofs.Common.{Result, Ok, Err}
 use Rattle.layout.specs.Sizes.{image_words}
 use Rattle.layout.specs.Numbers.{told_number, refusal_number}
 use Rattle.layout.specs.declared.refusals.Refusal.{Refusal}
 use Rattle.layout.specs.declared.refusals.Refusal.TheVariants.{WrongImage, NoStoreLeft}
 use Rattle.layout.proofs.Told.{refused_ne}
-use Rattle.work.specs.Entries.{Stored, put_of, left_of, moved, handed, store_given, store_handed, store_number, store_result, store_image}
+use Rattle.work.specs.Entries.{Stored, put_of, left_of, moved, store_given, store_number, store_result, store_image}
 use Rattle.work.specs.declared.Work.{Work}
 
 -- what a store that is made knows: the image's size, and that a store is left
@@ -49,8 +50,7 @@ module _ (w : Work) (image : List ℕ) {u : Unit {0}} (h : store_given w image �
   pub made_allowed : Allowed w image
   made_allowed = allowed w image made_number
 
-  pub made_handed : store_handed w image ≡ Ok (moved w)
-  unfolding store_handed
+  pub made_handed : result_and (store_given w image) (Ok (moved w)) ≡ Ok (moved w)
   made_handed = rw h
 
   pub made_work : (store_result w image).work ≡ moved w
@@ -75,8 +75,7 @@ module _ (w : Work) (image : List ℕ) {r : Refusal} (h : store_given w image �
   pub refused_fails : eqb (store_number w image) 0 ≡ false
   refused_fails = ap (λ (n : ℕ). eqb n 0) refused_number ∙ refused_ne r
 
-  pub refused_handed : store_handed w image ≡ Err r
-  unfolding store_handed
+  pub refused_handed : result_and (store_given w image) (Ok (moved w)) ≡ Err r
   refused_handed = rw h
 
   pub refused_work : (store_result w image).work ≡ w
@@ -101,21 +100,21 @@ work_in w (Err r) = w
 not_success : (r : Refusal) → refusal_number r ≡ 0 → ⊥
 not_success r e = true≢false (sym (ap (λ (n : ℕ). eqb n 0) e) ∙ refused_ne r)
 
-handed_by : (w v : Work) (g : Result (Unit {0}) Refusal) → handed (moved w) g ≡ Ok v
+handed_by : (w v : Work) (g : Result (Unit {0}) Refusal) → result_and g (Ok (moved w)) ≡ Ok v
     → cond (eqb (told_number g) 0) (numbered 0 (moved w)) (numbered (told_number g) w) ≡ numbered 0 v
 handed_by w v (Ok u) h = ap (λ (x : Result Work Refusal). numbered 0 (work_in w x)) h
 handed_by w v (Err r) h = absurd (not_success r (ap told_number h))
 
-kept_by : (w : Work) (e : Refusal) (g : Result (Unit {0}) Refusal) → handed (moved w) g ≡ Err e
+kept_by : (w : Work) (e : Refusal) (g : Result (Unit {0}) Refusal) → result_and g (Ok (moved w)) ≡ Err e
     → cond (eqb (told_number g) 0) (numbered 0 (moved w)) (numbered (told_number g) w) ≡ numbered (refusal_number e) w
 kept_by w e (Ok u) h = absurd (not_success e (sym (ap told_number h)))
 kept_by w e (Err r) h = rw (refused_ne r) (ap (λ (n : ℕ). numbered n w) (ap told_number h))
 
-pub handed_result : (w : Work) (image : List ℕ) {v : Work} → store_handed w image ≡ Ok v → store_result w image ≡ record { number = 0; work = v }
-unfolding store_handed store_result store_number
+pub handed_result : (w : Work) (image : List ℕ) {v : Work} → result_and (store_given w image) (Ok (moved w)) ≡ Ok v → store_result w image ≡ record { number = 0; work = v }
+unfolding store_result store_number
 handed_result w image {v} h = handed_by w v (store_given w image) h
 
-pub kept_result : (w : Work) (image : List ℕ) {e : Refusal} → store_handed w image ≡ Err e
+pub kept_result : (w : Work) (image : List ℕ) {e : Refusal} → result_and (store_given w image) (Ok (moved w)) ≡ Err e
     → store_result w image ≡ record { number = refusal_number e; work = w }
-unfolding store_handed store_result store_number
+unfolding store_result store_number
 kept_result w image {e} h = kept_by w e (store_given w image) h

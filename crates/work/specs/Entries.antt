@@ -55,14 +55,6 @@ unfoldable pub store_number : Work → List ℕ → ℕ
 unfolding store_given
 store_number w image = told_number (store_given w image)
 
--- "hands it back": the work one store on, or why none is made
-abbrev pub handed : Work → Result (Unit {0}) Refusal → Result Work Refusal
-handed w (Ok u) = Ok w
-handed w (Err r) = Err r
-
-unfoldable pub store_handed : Work → List ℕ → Result Work Refusal
-store_handed w image = handed (moved w) (store_given w image)
-
 -- a store's number, and the work after it
 pub record Stored : Type 0 where
   pub number : ℕ

@@ -5,8 +5,9 @@
 pub mod entry;
 pub mod lent;
 
-ghost use Rattle.std.specs.Prelude.{◌≡◌, length};
-ghost use Rattle.work.specs.Entries.{left_of, store_given, store_handed, store_result, store_image, answer_given, answer_buffer};
+ghost use Rattle.std.specs.Prelude.{◌≡◌, length, Ok};
+ghost use Rattle.std.specs.Result.{result_and};
+ghost use Rattle.work.specs.Entries.{left_of, moved, store_given, store_result, store_image, answer_given, answer_buffer};
 ghost use Rattle.work.specs.Parts.{storing, lent_work};
 ghost use Rattle.work.specs.Recorded.{entry_result, entry_buffer};
 
@@ -72,7 +73,7 @@ impl Work {
 
     // The same store, of a copy that is handed back: the caller's work stays.
     pub fn store(self, image: &mut [u32]) -> Result<Work, Refusal>
-        ensures value { result ≡ store_handed self image.old }
+        ensures value { result ≡ result_and (store_given self image.old) (Ok (moved self)) }
         ensures image_after { image.new ≡ store_image self image.old }
     {
         let mut next = self;

@@ -3,9 +3,6 @@ use Rattle.layout.specs.Words.{zeros}
 use Rattle.invoking.proofs.Fresh.{no_fresh}
 use Rattle.invoking.proofs.plan_extend.Goals as goal
 
-pub extended_row-requires : goal.extended_row-requires
-extended_row-requires c = c.named-i.ensures.upper_bound
-
 pub returns : goal.returns
 unfolding zeros
 returns c =
@@ -14,6 +11,7 @@ returns c =
       c.inputs_of.ensures,
       c.with_caller-row.ensures,
       c.extended_row.ensures,
+      c.bytes_in-before.ensures,
       c.named-i.ensures.value,
       no_fresh,
     )

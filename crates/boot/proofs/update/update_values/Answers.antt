@@ -10,6 +10,7 @@ returns c =
       c.digests_of-inputs.ensures,
       c.pack-kept.ensures,
       c.extended_row-node.ensures,
+      c.bytes_in-before.ensures,
       c.pack-words.ensures,
       c.pack-register.ensures,
       c.extend_by_boot-journey.ensures,

@@ -2,4 +2,4 @@
 use Rattle.opening.proofs.extended.extended_row.Goals as goal
 
 pub returns : goal.returns
-returns c = rw (c.measurements_row.ensures, c.extend.ensures, c.bytes_in-before.ensures)
+returns c = rw (c.measurements_row.ensures, c.extend.ensures)
