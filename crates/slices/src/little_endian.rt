@@ -8,6 +8,7 @@ use crate::strings::bytes_of;
 use layout::REGISTER_WORDS;
 
 // The byte k places after an index.
+// (kept: a public function with a contract and edits of its own, though what calls this crate reads whole numbers)
 pub fn byte(s: &[u8], at: usize, k: usize) -> u8
     ensures { result ≡ get_or s.now (at + k) 0 }
 {

@@ -5,4 +5,4 @@ use Rattle.sha_block.proofs.words.big0.Goals as goal
 
 pub returns : goal.returns
 unfolding Sigma0
-returns c = nested0 c.args.x c.ranges.x.fits
+returns c = rw (c.rotate_right-3.ensures, c.rotate_right-2.ensures, c.rotate_right.ensures) (nested0 c.args.x c.ranges.x.fits)

@@ -5,4 +5,4 @@ use Rattle.sha_block.proofs.words.big1.Goals as goal
 
 pub returns : goal.returns
 unfolding Sigma1
-returns c = nested1 c.args.x c.ranges.x.fits
+returns c = rw (c.rotate_right-3.ensures, c.rotate_right-2.ensures, c.rotate_right.ensures) (nested1 c.args.x c.ranges.x.fits)

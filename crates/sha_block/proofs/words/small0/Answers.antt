@@ -5,4 +5,4 @@ use Rattle.sha_block.proofs.words.small0.Goals as goal
 
 pub returns : goal.returns
 unfolding sigma0
-returns c = paired0 c.args.x c.ranges.x.fits
+returns c = rw (c.rotate_right-2.ensures, c.rotate_right.ensures) (paired0 c.args.x c.ranges.x.fits)
