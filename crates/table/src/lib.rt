@@ -6,16 +6,17 @@ pub mod coding;
 mod puts;
 mod row;
 
-ghost use Rattle.std.specs.Prelude.{◌≡◌, true, ◌<◌, ltb, get_or};
+ghost use Rattle.std.specs.Prelude.{◌≡◌, true, ◌<◌, ltb, get_or, []};
 ghost use Rattle.layout.specs.Below.{all_below};
 ghost use Rattle.layout.specs.Sizes.{node_count, image_words};
-ghost use Rattle.table.specs.Table.{number_of, index_ok, put_from, runs_for, store_at};
+ghost use Rattle.table.specs.Table.{number_of, index_ok, put_from, runs_for, sought, store_at};
 
 use crate::puts::{
     COLD_STORES, DERIVE_STORES, DISABLING_STORES, EXTEND_STORES, EXTEND_WORDS, EXTENSION_STORES,
-    REPLACE_STORES, ROTATE_STORES, STASH_STORES, UPDATE_STORES, cold_put, destroy_put,
-    destroy_stores, disabling_put, extension_put, part_put, replace_put, stash_put, update_put,
+    REPLACE_STORES, ROTATE_STORES, STASH_STORES, UPDATE_STORES, cold_row, destroy_row,
+    destroy_stores, disabling_row, extension_row, part_row, replace_row, stash_row, update_row,
 };
+use crate::row::Row;
 use layout::registers::may_extend;
 use layout::{CURRENT_AT, HANDLE_AT, HANDLE_WORDS, NODE_WORDS, NODES};
 use packing::word;
@@ -120,24 +121,23 @@ pub fn index_ok(kind: Kind, node: &[u32]) -> bool
     }
 }
 
-// Store k of a kind of work; past its last store, one that nobody makes.
-fn row_put(kind: Kind, k: usize, words: &Prepared) -> Put
-    requires node_value { index_ok kind words.now.node.now ≡ true }
-    ensures value { result ≡ put_from 0 (runs_for kind words.now.register.now words.now.journey.now words.now.node.now words.now.secret.now) k }
-    ensures address_lt_image_words { result.address < image_words }
+// The row of a kind of work, gone through for its store k.
+fn row_of(kind: Kind, k: usize, words: &Prepared) -> Row
+    requires { index_ok kind words.now.node.now ≡ true }
+    ensures { sought result [] ≡ put_from 0 (runs_for kind words.now.register.now words.now.journey.now words.now.node.now words.now.secret.now) k }
 {
     match kind {
-        Kind::Nothing => NO_STORE,
-        Kind::Disabling => disabling_put(k),
-        Kind::Stash(at) => stash_put(at, words.register, words.node, k),
-        Kind::Update(root) => update_put(root, words, k),
-        Kind::ColdBoot => cold_put(words, k),
-        Kind::Extension(at) => extension_put(at, words.register, k),
-        Kind::Derive(i) => part_put(i, 0, NODE_WORDS, words.node, k),
-        Kind::Replace(at) => replace_put(at, words.node, k),
-        Kind::Extend(i) => part_put(i, CURRENT_AT, EXTEND_WORDS, words.node, k),
-        Kind::Rotate(i) => part_put(i, HANDLE_AT, HANDLE_WORDS, words.node, k),
-        Kind::Destroy(count) => destroy_put(count, words.node, k),
+        Kind::Nothing => Row::new(k),
+        Kind::Disabling => disabling_row(k),
+        Kind::Stash(at) => stash_row(at, words.register, words.node, k),
+        Kind::Update(root) => update_row(root, words, k),
+        Kind::ColdBoot => cold_row(words, k),
+        Kind::Extension(at) => extension_row(at, words.register, k),
+        Kind::Derive(i) => part_row(i, 0, NODE_WORDS, words.node, k),
+        Kind::Replace(at) => replace_row(at, words.node, k),
+        Kind::Extend(i) => part_row(i, CURRENT_AT, EXTEND_WORDS, words.node, k),
+        Kind::Rotate(i) => part_row(i, HANDLE_AT, HANDLE_WORDS, words.node, k),
+        Kind::Destroy(count) => destroy_row(count, words.node, k),
     }
 }
 
@@ -148,7 +148,7 @@ pub fn put_at(kind: Kind, k: usize, words: &Prepared) -> Put
     ensures address_lt_image_words { result.address < image_words }
 {
     if index_ok(kind, words.node) && k < number(kind) {
-        return row_put(kind, k, words);
+        return row_of(kind, k, words).put();
     }
     NO_STORE
 }

@@ -1,14 +1,14 @@
 // The store table of document 01: for each kind of work, the word and the value of store k.
 //
 // Each function is the table's row from top to bottom, a line for each field, as its definition has them.
-ghost use Rattle.std.specs.Prelude.{◌≡◌, true, ◌+◌, ◌≤◌, ◌<◌, ltb, get_or};
+ghost use Rattle.std.specs.Prelude.{◌≡◌, true, ◌+◌, ◌≤◌, ◌<◌, ltb, get_or, []};
 ghost use Rattle.layout.specs.Below.{all_below};
-ghost use Rattle.layout.specs.Sizes.{node_count, node_words, node_at, extend_last, image_words};
-ghost use Rattle.table.specs.Table.{put_from, stash_runs, disabling_runs, update_runs, cold_runs, extension_runs, part_runs, replace_runs, destroy_runs, number_of};
+ghost use Rattle.layout.specs.Sizes.{node_count, node_words, node_at, extend_last};
+ghost use Rattle.table.specs.Table.{put_from, sought, stash_runs, disabling_runs, update_runs, cold_runs, extension_runs, part_runs, replace_runs, destroy_runs, number_of};
 ghost use Rattle.table.specs.declared.Kind.TheVariants.{Destroy};
 
 use crate::row::Row;
-use crate::{Prepared, Put, StashAt};
+use crate::{Prepared, StashAt};
 use layout::{
     ATTESTATION_AT, CUMULATIVE_AT, CURRENT_AT, HANDLE_AT, HANDLE_WORDS, IMAGE_WORDS, MARK_AT,
     NODE_WORDS, NODES, NODES_AT, PCR2_AT, PCR3_AT, PCR31_AT, REGISTER_WORDS, REGISTERS_AT,
@@ -24,7 +24,7 @@ const ON: u32 = 1;
 const MARKS: usize = 2;
 
 // Where a node begins.
-// (kept: the index's bound stands as a clause of this, `part_put` and `Row::part`: a kind holds plain indices, which C gives and
+// (kept: the index's bound stands as a clause of this, `part_row` and `Row::part`: a kind holds plain indices, which C gives and
 // `index_ok` tests once)
 #[inline(always)]
 fn node_at(i: usize) -> usize
@@ -37,11 +37,10 @@ fn node_at(i: usize) -> usize
 // Stash: mark 0; PCR31; the new node; the old holder's five handle words; mark 1.
 pub(crate) const STASH_STORES: usize = MARKS + REGISTER_WORDS + NODE_WORDS + HANDLE_WORDS;
 
-pub(crate) fn stash_put(at: StashAt, register: &[u32], node: &[u32], k: usize) -> Put
+pub(crate) fn stash_row(at: StashAt, register: &[u32], node: &[u32], k: usize) -> Row
     requires node_lt_node_count { at.node < node_count }
     requires holder_lt_node_count { at.holder < node_count }
-    ensures value { result ≡ put_from 0 (stash_runs at register.now node.now) k }
-    ensures address_lt_image_words { result.address < image_words }
+    ensures { sought result [] ≡ put_from 0 (stash_runs at register.now node.now) k }
 {
     Row::new(k)
         .one(MARK_AT, 0)
@@ -49,31 +48,27 @@ pub(crate) fn stash_put(at: StashAt, register: &[u32], node: &[u32], k: usize) -
         .copy(node_at(at.node), NODE_WORDS, node)
         .fill(node_at(at.holder) + HANDLE_AT, HANDLE_WORDS, RETIRED_WORD)
         .one(MARK_AT, 1)
-        .put()
 }
 
 // Disabling: mark 0; word 1 zero; secret zero; mark 1.
 pub(crate) const DISABLING_STORES: usize = MARKS + 1 + REGISTER_WORDS;
 
-pub(crate) fn disabling_put(k: usize) -> Put
-    ensures value { result ≡ put_from 0 disabling_runs k }
-    ensures address_lt_image_words { result.address < image_words }
+pub(crate) fn disabling_row(k: usize) -> Row
+    ensures { sought result [] ≡ put_from 0 disabling_runs k }
 {
     Row::new(k)
         .one(MARK_AT, 0)
         .one(ATTESTATION_AT, OFF)
         .fill(SECRET_AT, REGISTER_WORDS, 0)
         .one(MARK_AT, 1)
-        .put()
 }
 
 // Update: mark 0; PCR2; PCR3; secret; root's current; root's cumulative; mark 1.
 pub(crate) const UPDATE_STORES: usize = MARKS + 5 * REGISTER_WORDS;
 
-pub(crate) fn update_put(root: usize, words: &Prepared, k: usize) -> Put
+pub(crate) fn update_row(root: usize, words: &Prepared, k: usize) -> Row
     requires root_lt_node_count { root < node_count }
-    ensures value { result ≡ put_from 0 (update_runs root words.now.register.now words.now.journey.now words.now.node.now words.now.secret.now) k }
-    ensures address_lt_image_words { result.address < image_words }
+    ensures { sought result [] ≡ put_from 0 (update_runs root words.now.register.now words.now.journey.now words.now.node.now words.now.secret.now) k }
 {
     Row::new(k)
         .one(MARK_AT, 0)
@@ -83,7 +78,6 @@ pub(crate) fn update_put(root: usize, words: &Prepared, k: usize) -> Put
         .part(root, CURRENT_AT, REGISTER_WORDS, words.node)
         .part(root, CUMULATIVE_AT, REGISTER_WORDS, words.node)
         .one(MARK_AT, 1)
-        .put()
 }
 
 // Cold boot: mark 0; words 1 to the last; mark 1. All is zero but word 1, the secret, PCR2, PCR3 and the root.
@@ -92,9 +86,8 @@ pub(crate) const COLD_STORES: usize = IMAGE_WORDS + 1;
 // Behind PCR3.
 const PCR4_AT: usize = PCR3_AT + REGISTER_WORDS;
 
-pub(crate) fn cold_put(words: &Prepared, k: usize) -> Put
-    ensures value { result ≡ put_from 0 (cold_runs words.now.register.now words.now.journey.now words.now.node.now words.now.secret.now) k }
-    ensures address_lt_image_words { result.address < image_words }
+pub(crate) fn cold_row(words: &Prepared, k: usize) -> Row
+    ensures { sought result [] ≡ put_from 0 (cold_runs words.now.register.now words.now.journey.now words.now.node.now words.now.secret.now) k }
 {
     Row::new(k)
         .one(MARK_AT, 0)
@@ -108,22 +101,19 @@ pub(crate) fn cold_put(words: &Prepared, k: usize) -> Put
         .copy(NODES_AT, NODE_WORDS, words.node)
         .fill(NODES_AT + NODE_WORDS, (NODES - 1) * NODE_WORDS, 0)
         .one(MARK_AT, 1)
-        .put()
 }
 
 // Extension: mark 0; the register; mark 1.
 pub(crate) const EXTENSION_STORES: usize = MARKS + REGISTER_WORDS;
 
-pub(crate) fn extension_put(at: usize, register: &[u32], k: usize) -> Put
+pub(crate) fn extension_row(at: usize, register: &[u32], k: usize) -> Row
     requires at_le_extend_last { at ≤ extend_last }
-    ensures value { result ≡ put_from 0 (extension_runs at register.now) k }
-    ensures address_lt_image_words { result.address < image_words }
+    ensures { sought result [] ≡ put_from 0 (extension_runs at register.now) k }
 {
     Row::new(k)
         .one(MARK_AT, 0)
         .copy(REGISTERS_AT + REGISTER_WORDS * at, REGISTER_WORDS, register)
         .one(MARK_AT, 1)
-        .put()
 }
 
 // Words of one node, as many as `words` from its word `from` on: mark 0; the words; mark 1. A derived child's
@@ -136,27 +126,24 @@ pub(crate) const EXTEND_STORES: usize = MARKS + EXTEND_WORDS;
 
 pub(crate) const ROTATE_STORES: usize = MARKS + HANDLE_WORDS;
 
-pub(crate) fn part_put(i: usize, from: usize, words: usize, node: &[u32], k: usize) -> Put
+pub(crate) fn part_row(i: usize, from: usize, words: usize, node: &[u32], k: usize) -> Row
     requires i_lt_node_count { i < node_count }
     requires words_bound { from + words ≤ node_words }
-    ensures value { result ≡ put_from 0 (part_runs i from words node.now) k }
-    ensures address_lt_image_words { result.address < image_words }
+    ensures { sought result [] ≡ put_from 0 (part_runs i from words node.now) k }
 {
     Row::new(k)
         .one(MARK_AT, 0)
         .part(i, from, words, node)
         .one(MARK_AT, 1)
-        .put()
 }
 
 // Derive without retain: mark 0; the new node; the parent's five handle words; mark 1.
 pub(crate) const REPLACE_STORES: usize = MARKS + NODE_WORDS + HANDLE_WORDS;
 
-pub(crate) fn replace_put(at: StashAt, node: &[u32], k: usize) -> Put
+pub(crate) fn replace_row(at: StashAt, node: &[u32], k: usize) -> Row
     requires node_lt_node_count { at.node < node_count }
     requires holder_lt_node_count { at.holder < node_count }
-    ensures value { result ≡ put_from 0 (replace_runs at node.now) k }
-    ensures address_lt_image_words { result.address < image_words }
+    ensures { sought result [] ≡ put_from 0 (replace_runs at node.now) k }
 {
     let StashAt {
         node: child,
@@ -167,7 +154,6 @@ pub(crate) fn replace_put(at: StashAt, node: &[u32], k: usize) -> Put
         .copy(node_at(child), NODE_WORDS, node)
         .fill(node_at(parent) + HANDLE_AT, HANDLE_WORDS, RETIRED_WORD)
         .one(MARK_AT, 1)
-        .put()
 }
 
 // Destroy: mark 0; the freed nodes, upwards, all zero; mark 1. More nodes than there are have no stores.
@@ -180,15 +166,13 @@ pub(crate) fn destroy_stores(count: usize) -> usize
     0
 }
 
-pub(crate) fn destroy_put(count: usize, freed: &[u32], k: usize) -> Put
+pub(crate) fn destroy_row(count: usize, freed: &[u32], k: usize) -> Row
     requires count_le_node_count { count ≤ node_count }
     requires node_count_value { all_below count (λ j. ltb (get_or freed.now j 0) node_count) ≡ true }
-    ensures value { result ≡ put_from 0 (destroy_runs count freed.now) k }
-    ensures address_lt_image_words { result.address < image_words }
+    ensures { sought result [] ≡ put_from 0 (destroy_runs count freed.now) k }
 {
     Row::new(k)
         .one(MARK_AT, 0)
         .clear(count, freed)
         .one(MARK_AT, 1)
-        .put()
 }

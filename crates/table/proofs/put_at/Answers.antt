@@ -9,17 +9,18 @@ use Rattle.table.proofs.ByKind.{store_at_law}
 use Rattle.table.proofs.put_at.Goals as goal
 use Rattle.table.proofs.put_at.Goals.{else-index_ok-via-then-index_ok+else-k-number, else-index_ok-via-else-index_ok}
 
-pub row_put-requires : goal.row_put-requires
-row_put-requires c =
-    record { node_value = told c.index_ok.ensures c.if-index_ok.true }
+pub row_of-requires : goal.row_of-requires
+row_of-requires c =
+    told c.index_ok.ensures c.if-index_ok.true
 
 pub returns-then-k-number : goal.returns-then-k-number
 returns-then-k-number c =
     let a = c.args in record {
-      value = c.row_put.ensures.value
+      value = c.put.ensures.value
+          ∙ c.row_of.ensures
           ∙ sym (store_at_law a.kind a.k _ _ _ _ (told c.index_ok.ensures c.if-index_ok.true)
           (omega (arith, c.number.ensures)));
-      address_lt_image_words = c.row_put.ensures.address_lt_image_words;
+      address_lt_image_words = c.put.ensures.address_lt_image_words;
     }
 
 pub returns-clause-value : goal.returns-clause-value

@@ -2,14 +2,13 @@
 use mathlib.Core.Path.{◌∙◌}
 use lib.ListN.{drop}
 use Rattle.table.specs.Table.{extension_runs}
-use Rattle.table.proofs.puts.extension_put.Goals as goal
+use Rattle.table.proofs.puts.extension_row.Goals as goal
 
-pub returns-clause-value : goal.returns-clause-value
-returns-clause-value c =
+pub returns : goal.returns
+returns c =
     let a = c.args in
     let row = extension_runs a.at a.register.now in
-    c.put.ensures.value
-    ∙ c.one-2.ensures (drop 3 row)
+    c.one-2.ensures (drop 3 row)
     ∙ c.copy.ensures (drop 2 row)
     ∙ c.one.ensures (drop 1 row)
     ∙ c.new.ensures row

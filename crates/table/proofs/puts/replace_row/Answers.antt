@@ -2,14 +2,13 @@
 use mathlib.Core.Path.{◌∙◌}
 use lib.ListN.{drop}
 use Rattle.table.specs.Table.{replace_runs}
-use Rattle.table.proofs.puts.replace_put.Goals as goal
+use Rattle.table.proofs.puts.replace_row.Goals as goal
 
-pub returns-clause-value : goal.returns-clause-value
-returns-clause-value c =
+pub returns : goal.returns
+returns c =
     let a = c.args in
     let row = replace_runs a.at a.node.now in
-    c.put.ensures.value
-    ∙ c.one-2.ensures (drop 4 row)
+    c.one-2.ensures (drop 4 row)
     ∙ rw c.node_at-2.ensures at (c.fill.ensures (drop 3 row))
     ∙ rw c.node_at.ensures at (c.copy.ensures (drop 2 row))
     ∙ c.one.ensures (drop 1 row)

@@ -2,14 +2,13 @@
 use mathlib.Core.Path.{◌∙◌}
 use lib.ListN.{drop}
 use Rattle.table.specs.Table.{disabling_runs}
-use Rattle.table.proofs.puts.disabling_put.Goals as goal
+use Rattle.table.proofs.puts.disabling_row.Goals as goal
 
-pub returns-clause-value : goal.returns-clause-value
-returns-clause-value c =
+pub returns : goal.returns
+returns c =
     let a = c.args in
     let row = disabling_runs in
-    c.put.ensures.value
-    ∙ c.one-3.ensures (drop 4 row)
+    c.one-3.ensures (drop 4 row)
     ∙ c.fill.ensures (drop 3 row)
     ∙ c.one-2.ensures (drop 2 row)
     ∙ c.one.ensures (drop 1 row)

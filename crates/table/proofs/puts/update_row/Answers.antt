@@ -2,14 +2,13 @@
 use mathlib.Core.Path.{◌∙◌}
 use lib.ListN.{drop}
 use Rattle.table.specs.Table.{update_runs}
-use Rattle.table.proofs.puts.update_put.Goals as goal
+use Rattle.table.proofs.puts.update_row.Goals as goal
 
-pub returns-clause-value : goal.returns-clause-value
-returns-clause-value c =
+pub returns : goal.returns
+returns c =
     let a = c.args in
     let row = update_runs a.root a.words.now.register.now a.words.now.journey.now a.words.now.node.now a.words.now.secret.now in
-    c.put.ensures.value
-    ∙ c.one-2.ensures (drop 7 row)
+    c.one-2.ensures (drop 7 row)
     ∙ c.part-2.ensures (drop 6 row)
     ∙ c.part.ensures (drop 5 row)
     ∙ c.copy-3.ensures (drop 4 row)

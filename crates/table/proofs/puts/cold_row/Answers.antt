@@ -2,14 +2,13 @@
 use mathlib.Core.Path.{◌∙◌}
 use lib.ListN.{drop}
 use Rattle.table.specs.Table.{cold_runs}
-use Rattle.table.proofs.puts.cold_put.Goals as goal
+use Rattle.table.proofs.puts.cold_row.Goals as goal
 
-pub returns-clause-value : goal.returns-clause-value
-returns-clause-value c =
+pub returns : goal.returns
+returns c =
     let a = c.args in
     let row = cold_runs a.words.now.register.now a.words.now.journey.now a.words.now.node.now a.words.now.secret.now in
-    c.put.ensures.value
-    ∙ c.one-3.ensures (drop 11 row)
+    c.one-3.ensures (drop 11 row)
     ∙ c.fill-4.ensures (drop 10 row)
     ∙ c.copy-4.ensures (drop 9 row)
     ∙ c.fill-3.ensures (drop 8 row)

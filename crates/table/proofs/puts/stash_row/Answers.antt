@@ -2,14 +2,13 @@
 use mathlib.Core.Path.{◌∙◌}
 use lib.ListN.{drop}
 use Rattle.table.specs.Table.{stash_runs}
-use Rattle.table.proofs.puts.stash_put.Goals as goal
+use Rattle.table.proofs.puts.stash_row.Goals as goal
 
-pub returns-clause-value : goal.returns-clause-value
-returns-clause-value c =
+pub returns : goal.returns
+returns c =
     let a = c.args in
     let row = stash_runs a.at a.register.now a.node.now in
-    c.put.ensures.value
-    ∙ c.one-2.ensures (drop 5 row)
+    c.one-2.ensures (drop 5 row)
     ∙ rw c.node_at-2.ensures at (c.fill.ensures (drop 4 row))
     ∙ rw c.node_at.ensures at (c.copy-2.ensures (drop 3 row))
     ∙ c.copy.ensures (drop 2 row)

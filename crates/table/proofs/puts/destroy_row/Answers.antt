@@ -4,12 +4,12 @@ use mathlib.Core.List.{List, [], ◌∷◌}
 use borrow.Author.Tests.{le-leb}
 use Rattle.layout.specs.Sizes.{node_count, mark_at}
 use Rattle.table.specs.Table.{Run, one, clear}
-use Rattle.table.proofs.puts.destroy_put.Goals as goal
+use Rattle.table.proofs.puts.destroy_row.Goals as goal
 
-pub returns-clause-value : goal.returns-clause-value
-returns-clause-value c =
+pub returns : goal.returns
+returns c =
     let a = c.args in
     let end : List Run = one mark_at 1 ∷ [] in
     let middle : List Run = clear a.count a.freed.now ∷ end in
     rw (le-leb a.count node_count c.requires.count_le_node_count)
-    (c.put.ensures.value ∙ c.one-2.ensures [] ∙ c.clear.ensures end ∙ c.one.ensures middle ∙ c.new.ensures (one mark_at 0 ∷ middle))
+    (c.one-2.ensures [] ∙ c.clear.ensures end ∙ c.one.ensures middle ∙ c.new.ensures (one mark_at 0 ∷ middle))
