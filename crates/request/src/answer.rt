@@ -1,6 +1,7 @@
 // An answer's bytes (checksum, FIPS status 0, and the rest), and the works that carry one.
 ghost use Rattle.std.specs.Prelude.{◌≡◌, ◌++◌, ◌+◌, ◌-◌, ◌≤◌, length, take, drop};
 ghost use Rattle.layout.specs.Sizes.{answer_max};
+ghost use Rattle.layout.specs.Refusals.{decline_number};
 ghost use Rattle.layout.specs.Words.{bytes4};
 ghost use Rattle.message.specs.Checksum.{checksum_of};
 ghost use Rattle.making.specs.Made.{answer_in, work_with, plain_work};
@@ -8,6 +9,7 @@ ghost use Rattle.opening.specs.Rules.{answer_of};
 
 use layout::ANSWER_MAX;
 use layout::bytes::Bytes;
+use layout::refusals::Decline;
 use making::{Values, new_work, no_values};
 use packing::four;
 use table::Kind;
@@ -53,8 +55,8 @@ pub(crate) fn ready_plain(kind: Kind, rest: &[u8]) -> Work
 }
 
 // A request is declined: nothing to store, and its dpe result in the answer.
-pub(crate) fn declined(res: u32) -> Work
-    ensures { result ≡ plain_work Kind.Nothing (answer_of (bytes4 res)) }
+pub(crate) fn declined(decline: Decline) -> Work
+    ensures { result ≡ plain_work Kind.Nothing (answer_of (bytes4 (decline_number decline))) }
 {
-    ready_plain(Kind::Nothing, &four(res))
+    ready_plain(Kind::Nothing, &four(u32::from(decline)))
 }

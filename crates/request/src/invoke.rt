@@ -62,14 +62,14 @@ pub(crate) fn serve_invoke(
     ensures { result ≡ screened_opened invoke_dpe image.now (request_of invoke_code bytes.now caller [] false fresh.now) }
 {
     if image[ATTESTATION_AT] != 1 {
-        return Ok(declined(u32::from(Decline::Off)));
+        return Ok(declined(Decline::Off));
     }
     if !well_formed(image) {
         return Err(Refusal::NotWellFormed);
     }
     let order = read_order(bytes, DATA_FROM);
     if let Err(decline) = ground(image, order, fresh, caller) {
-        return Ok(declined(u32::from(decline)));
+        return Ok(declined(decline));
     }
     Ok(accepted(image, order, fresh, caller))
 }

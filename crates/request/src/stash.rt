@@ -80,18 +80,18 @@ pub(crate) fn serve_stash(image: &[u32], bytes: &[u8], caller: u32) -> Result<Wo
     ensures { result ≡ screened_opened stash_measurement image.now (request_of stash_code bytes.now caller [] false []) }
 {
     if image[ATTESTATION_AT] != 1 {
-        return Ok(declined(u32::from(Decline::Off)));
+        return Ok(declined(Decline::Off));
     }
     if !well_formed(image) {
         return Err(Refusal::NotWellFormed);
     }
     let holder = holder_index(image);
     if NODES <= holder {
-        return Ok(declined(u32::from(Decline::NoHolder)));
+        return Ok(declined(Decline::NoHolder));
     }
     let node = free_index(image);
     if NODES <= node {
-        return Ok(declined(u32::from(Decline::Full)));
+        return Ok(declined(Decline::Full));
     }
     Ok(accepted(image, bytes, caller, node, holder))
 }

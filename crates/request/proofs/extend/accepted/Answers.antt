@@ -2,9 +2,6 @@
 use Rattle.opening.specs.Works.{work_at}
 use Rattle.request.proofs.extend.accepted.Goals as goal
 
-pub extension_values-values-requires : goal.extension_values-values-requires
-extension_values-values-requires c = c.requires
-
 pub returns : goal.returns
 unfolding work_at
 returns c =

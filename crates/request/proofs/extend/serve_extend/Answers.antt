@@ -23,13 +23,6 @@ returns-then-image-ne1 c =
       ne_eqb (get_or c.args.image.now attestation_at 0) 1 c.if-image-ne1.true,
     )
 
-pub accepted-requires : goal.accepted-requires
-accepted-requires c = (
-  c.requires.1,
-  told c.may_extend.ensures c.if-not-may_extend.false,
-  c.register_in-register.ensures,
-)
-
 pub returns : goal.returns
 unfolding screened_opened view_in
 returns c =

@@ -19,7 +19,7 @@ use Rattle.request.proofs.invoke.serve_invoke.Goals as goal
 pub returns-then-image-ne1 : goal.returns-then-image-ne1
 unfolding screened_opened view_in work_at
 returns-then-image-ne1 c =
-    rw (ne_eqb (get_or c.args.image.now attestation_at 0) 1 c.if-image-ne1.true) (ap Ok (rw c.from.ensures at c.declined.ensures))
+    rw (ne_eqb (get_or c.args.image.now attestation_at 0) 1 c.if-image-ne1.true) (ap Ok c.declined.ensures)
 
 pub returns-then-not-well_formed : goal.returns-then-not-well_formed
 unfolding screened_opened view_in work_at
@@ -46,7 +46,6 @@ returns-in-Err c =
       ← ground_found image bytes a.caller fresh read.result read.ensures (dpe_result c.ground.result) c.ground.ensures,
       c.in-Err.is,
       ne_eqb (decline_number c.in-Err.decline) 0 (not_accepted c.in-Err.decline),
-      ← c.from-in-Err.ensures,
     ) (ap Ok c.declined-in-Err.ensures)
 
 pub returns : goal.returns

@@ -1,12 +1,6 @@
 -- Each command's opening does not look at the other inputs. Assumes nothing.
-use borrow.Author.Tests.{eqb-true}
-use lib.ListN.{length}
-use Rattle.opening.specs.Rules.{stash_length, extend_length}
 use Rattle.request.specs.Screen.{screened_opened}
 use Rattle.request.proofs.open.serve.Goals as goal
-
-pub serve_stash-requires : goal.serve_stash-requires
-serve_stash-requires c = (c.requires.0, eqb-true (length c.args.lent.bytes.now) stash_length (rw c.in-Stash.is at c.requires.1))
 
 pub returns-in-Stash : goal.returns-in-Stash
 unfolding screened_opened
@@ -24,15 +18,9 @@ pub returns-in-Verify : goal.returns-in-Verify
 unfolding screened_opened
 returns-in-Verify c = rw c.in-Verify.is c.serve_verify.ensures
 
-pub serve_extend-requires : goal.serve_extend-requires
-serve_extend-requires c = (c.requires.0, eqb-true (length c.args.lent.bytes.now) extend_length (rw c.in-Extend.is at c.requires.1))
-
 pub returns-in-Extend : goal.returns-in-Extend
 unfolding screened_opened
 returns-in-Extend c = rw c.in-Extend.is c.serve_extend.ensures
-
-pub serve_invoke-requires : goal.serve_invoke-requires
-serve_invoke-requires c = c.requires.0
 
 pub returns-in-Invoke : goal.returns-in-Invoke
 unfolding screened_opened

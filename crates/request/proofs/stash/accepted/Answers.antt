@@ -2,9 +2,6 @@
 use Rattle.opening.specs.Works.{work_at}
 use Rattle.request.proofs.stash.accepted.Goals as goal
 
-pub stash_values-values-requires : goal.stash_values-values-requires
-stash_values-values-requires c = (c.requires.bytes_len.0, c.requires.holder_le_node_count.0, c.requires.holder_le_node_count.1)
-
 pub returns : goal.returns
 unfolding work_at
 returns c =

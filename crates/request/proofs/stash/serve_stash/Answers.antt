@@ -15,7 +15,7 @@ use Rattle.request.proofs.stash.serve_stash.Goals as goal
 
 pub returns-then-image-ne1 : goal.returns-then-image-ne1
 unfolding screened_opened view_in work_at
-returns-then-image-ne1 c = rw (ne_eqb (get_or c.args.image.now attestation_at 0) 1 c.if-image-ne1.true) (ap Ok (rw c.from.ensures at c.declined.ensures))
+returns-then-image-ne1 c = rw (ne_eqb (get_or c.args.image.now attestation_at 0) 1 c.if-image-ne1.true) (ap Ok c.declined.ensures)
 
 pub returns-then-not-well_formed : goal.returns-then-not-well_formed
 unfolding screened_opened view_in work_at
@@ -34,7 +34,7 @@ returns-then-holder-ge-NODES c =
       eq-eqb (get_or a.image.now attestation_at 0) 1 c.if-image-ne1.false,
       told c.well_formed-2.ensures c.if-not-well_formed.false,
       le-leb node_count (node_with node_count (tree_in a.image.now) default_words) (omega (arith, c.holder_index-holder.ensures.value)),
-    ) (ap Ok (rw c.from-then-holder-ge-NODES.ensures at c.declined-then-holder-ge-NODES.ensures))
+    ) (ap Ok c.declined-then-holder-ge-NODES.ensures)
 
 pub returns-then-node-ge-NODES : goal.returns-then-node-ge-NODES
 unfolding screened_opened view_in work_at
@@ -45,7 +45,7 @@ returns-then-node-ge-NODES c =
       told c.well_formed-2.ensures c.if-not-well_formed.false,
       lt-leb node_count (node_with node_count (tree_in a.image.now) default_words) (omega (arith, c.holder_index-holder.ensures.value)),
       le-leb node_count (lowest_free node_count (tree_in a.image.now)) (omega (arith, c.free_index-node.ensures.value)),
-    ) (ap Ok (rw c.from-then-node-ge-NODES.ensures at c.declined-then-node-ge-NODES.ensures))
+    ) (ap Ok c.declined-then-node-ge-NODES.ensures)
 
 pub returns : goal.returns
 unfolding screened_opened view_in

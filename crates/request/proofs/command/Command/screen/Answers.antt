@@ -11,15 +11,11 @@ use Rattle.layout.proofs.Cases.{told}
 use Rattle.message.specs.Checksum.{checksum_of}
 use Rattle.opening.specs.Rules.{wrong_checksum}
 use Rattle.request.specs.Screen.{screen_of}
-use Rattle.request.proofs.Order.{row_long}
 use Rattle.request.proofs.command.Command.screen.Goals as goal
 
 pub returns-then-not-is_long : goal.returns-then-not-is_long
 unfolding screen_of
 returns-then-not-is_long c = rw (told c.is_long.ensures c.if-not-is_long.true)
-
-pub slice_bounds-checksum-start : goal.slice_bounds-checksum-start
-slice_bounds-checksum-start c = omega (arith, row_long c.args.self c.args.bytes.now (told c.is_long.ensures c.if-not-is_long.false))
 
 -- the slice is all bytes after the checksum field
 whole : (code : ℕ) (b : List ℕ) (s : ℕ) → s ≡ checksum_of code (take (length b - 4) (drop 4 b)) → s ≡ checksum_of code (drop 4 b)
