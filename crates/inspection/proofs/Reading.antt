@@ -17,7 +17,7 @@ use Rattle.layout.specs.Numbers.{refusal_number}
 use Rattle.layout.specs.Words.{bytes4, bytes8}
 use Rattle.layout.specs.declared.refusals.Refusal.{Refusal}
 use Rattle.layout.specs.declared.refusals.Refusal.TheVariants.{CutEntry}
-use Rattle.layout.specs.Refusals.{cut_entry, uncounted}
+use Rattle.layout.specs.Refusals.{cut_entry}
 use Rattle.journal.specs.Read.{Read, refused, got, map_read}
 use Rattle.journal.proofs.Says.{Says}
 use Rattle.journal.proofs.Entries.{EntrySized, entry_sized}
@@ -25,20 +25,11 @@ use Rattle.journal.specs.Entries.{Entry, read_entry, longest}
 use Rattle.journal_bytes.specs.Results.{parts_of, entry_in, taken_of, entry_read}
 use Rattle.journal_bytes.specs.declared.entry.EntryParts.{EntryParts}
 use Rattle.journal_bytes.proofs.Entries.{parts_entry}
-use Rattle.recount.specs.OnImage.{made_on, is_made, image_after}
+use Rattle.recount.specs.OnImage.{made_on, counting_in, image_after}
 use Rattle.replaying.specs.Report.{image_bytes, journal_max}
-use Rattle.inspection.specs.Stages.{Stage, verdict_at, told_of, told, stage_of, reader_of, refused_with, waiting_with, counted_with, counting_in, counting_of, counted_on, read_with, so_far, journal_byte, one_byte}
+use Rattle.inspection.specs.Stages.{Stage, verdict_at, told_of, told, stage_of, reader_of, refused_with, waiting_with, counted_with, counting_of, counted_on, read_with, so_far, journal_byte, one_byte}
 
 -- ---- the bytes of an entry: what they count as by what was read
-
--- an entry that is made counts, and one that is not is refused
-pub made : (o : Option (List ℕ)) → is_made o ≡ true → Ok tt ≡ counting_in o
-made none h = absurd (true≢false (sym h))
-made (some l) h = refl
-
-pub not_made : (o : Option (List ℕ)) → is_made o ≡ false → Err uncounted ≡ counting_in o
-not_made none h = refl
-not_made (some l) h = absurd (true≢false h)
 
 module _ (scratch l : List ℕ) where
   told_by : (R : Read Entry) (r : Refusal) → Err r ≡ taken_of l (map_read parts_of R) → R ≡ refused r

@@ -12,7 +12,7 @@ use Rattle.layout.specs.declared.refusals.Refusal.TheVariants.{WrongImage, CutEn
 use Rattle.layout.specs.Numbers.{refusal_number}
 use Rattle.journal.specs.Read.{Read, refused, got}
 use Rattle.journal.specs.Entries.{Entry, read_entry, longest}
-use Rattle.recount.specs.OnImage.{made_on, image_after}
+use Rattle.recount.specs.OnImage.{made_on, counting_in, image_after}
 use Rattle.replaying.specs.Report.{image_bytes, journal_max, compared_at}
 use Rattle.inspection.specs.declared.reader.Reader.{Reader}
 use Rattle.layout.specs.declared.bytes.Bytes.{Bytes}
@@ -82,10 +82,6 @@ unfoldable pub fed_with : Stage → List ℕ → Stage
 fed_with x piece = foldl one_byte x piece
 
 -- ---- of the private functions: what the bytes read count as, and the image afterwards
-
-abbrev pub counting_in : Option (List ℕ) → code.Result (Unit {0}) Refusal
-counting_in none = code.Err Uncounted
-counting_in (some image) = code.Ok tt
 
 abbrev pub counting_of : List ℕ → Read Entry → code.Result (Unit {0}) Refusal
 counting_of scratch (refused n) = code.Err n

@@ -15,10 +15,7 @@ fn count_entry(bytes: &[u8], scratch: &mut [u32]) -> Result<(), Refusal>
     ensures scratch_after { scratch.new ≡ counted_on scratch.old (read_entry bytes.now) }
 {
     let (entry, _) = read_entry(bytes)?;
-    if !count(scratch, entry) {
-        return Err(Refusal::Uncounted);
-    }
-    Ok(())
+    count(scratch, entry)
 }
 
 // A byte of the journal.

@@ -6,7 +6,8 @@ use mathlib.Core.List.{List, []}
 use mathlib.Core.Option.{Option, none, some}
 use lib.Dec.{eqb}
 use lib.ListN.{length}
-use Rattle.std.specs.Result.{is_ok, result_and}
+use Rattle.std.specs.Prelude.{Ok, Err}
+use Rattle.std.specs.Result.{result_and, result_or}
 use Rattle.layout.specs.Sizes.{image_words}
 use Rattle.layout.specs.declared.refusals.Refusal.TheVariants as refusal
 use Rattle.making.specs.Run.{all_stores}
@@ -15,11 +16,11 @@ use Rattle.opening.specs.Rules.{inputs_ok}
 use Rattle.opening.specs.Openings.{booted_of, open_cold_boot, stored_by, cold_booted}
 use Rattle.opening.specs.declared.Opened.{Opened}
 use Rattle.opening.specs.declared.Outcome.{Outcome}
-use Rattle.recount.specs.OnImage.{is_made, image_after, is_booted, cold_made}
+use Rattle.recount.specs.OnImage.{counting_in, image_after, is_booted, cold_made}
 
--- what a cold boot tells is whether it was made
+-- a cold boot that is refused was not made
 pub cold_told : (image : List ℕ) (x : BootInputs)
-    → (is_ok (result_and (open_cold_boot image x).status (Ok tt)) ≡ is_made (cold_made image x)) × (cold_booted image x ≡ image_after (cold_made image x) image)
+    → (result_or (result_and (open_cold_boot image x).status (Ok tt)) (Err refusal.Uncounted) ≡ counting_in (cold_made image x)) × (cold_booted image x ≡ image_after (cold_made image x) image)
 unfolding open_cold_boot cold_made cold_booted
 cold_told image x = by_tests (not (eqb (length image) image_words)) (not (inputs_ok x))
   where
@@ -27,7 +28,7 @@ cold_told image x = by_tests (not (eqb (length image) image_words)) (not (inputs
     made o = cond (is_booted o.status) (some (all_stores o.work image).image) none
 
     Told : Opened Outcome → Type 0
-    Told o = (is_ok (result_and o.status (Ok tt)) ≡ is_made (made o)) × (stored_by image o.work o.status ≡ image_after (made o) image)
+    Told o = (result_or (result_and o.status (Ok tt)) (Err refusal.Uncounted) ≡ counting_in (made o)) × (stored_by image o.work o.status ≡ image_after (made o) image)
 
     by_tests : (a b : Bool) → Told (booted_of image (cond a (refused refusal.WrongImage) (cond b (refused refusal.WrongInputs) (accepted (cold_boot x) []))))
     by_tests true b = (refl, refl)

@@ -2,13 +2,14 @@
 use mathlib.Core.Path.{◌≡◌, refl, ap, ◌∙◌}
 use Prim.Native.Nat.{ℕ, suc, ◌-◌, ◌≤◌, ◌<◌}
 use native.Mathlib.Omega.{arith}
-use mathlib.Core.Bool.{Bool}
 use mathlib.Core.List.{List, [], ◌∷◌, ◌++◌, append_assoc}
 use mathlib.Core.Option.{Option}
 use lib.ListN.{length, get_or, set, take, drop, replicate, length-set, length-append, length-drop, length-replicate}
 use lib.Seq.{take-append-le, take-append_seam, length-take-le}
 use borrow.Author.Tests.{le-ltb}
-use Rattle.std.proofs.Common.{Ok}
+use Rattle.std.proofs.Common.{Result, Ok}
+use Rattle.std.specs.Prelude.{⊤}
+use Rattle.layout.specs.declared.refusals.Refusal.{Refusal}
 use Rattle.layout.specs.Sizes.{handle_bytes}
 use Rattle.journal.specs.Entries.{Entry, kind_byte, form_of, fields_of, values_of, entry_bytes, longest}
 use Rattle.journal.specs.Numbers.{groups, number_bytes}
@@ -20,7 +21,7 @@ use Rattle.journal_bytes.specs.declared.entry.EntryKind.{EntryKind}
 use Rattle.journal_bytes.specs.declared.entry.EntryKind.TheVariants.{ColdBoot, Update, Disabling, Stash, Extension, Derive, Extend, Rotate, Destroy}
 use Rattle.replaying.specs.Asked.{invoke_asked, derive_data, extend_data, rotate_data, destroy_data}
 use Rattle.replaying.proofs.Short.{entry_most}
-use Rattle.recount.specs.OnImage.{request_made, made_on, is_made, image_after}
+use Rattle.recount.specs.OnImage.{request_made, made_on, counting_in, image_after}
 use Rattle.recount.specs.Within.{without_caller, data_within}
 
 -- ---- an entry of any parts is not too long
@@ -179,8 +180,8 @@ module _ (e : EntryParts) (long : length e.second ≡ 48) where
       record { kind = rw k (omega arith); more = rw k w.1; made = λ image. rw k (same image [] _ _ w.0) }
 
 -- what it makes is what the entry does
-pub made_by : {tail : ℕ} {e : EntryParts} {fresh : List ℕ} → Asks tail e fresh → (image : List ℕ) {after : List ℕ} {r : Bool}
-    → (r ≡ is_made (request_made image (invoke_asked (data_within tail (entry_in (without_caller e))) fresh e.caller)))
+pub made_by : {tail : ℕ} {e : EntryParts} {fresh : List ℕ} → Asks tail e fresh → (image : List ℕ) {after : List ℕ} {r : Result ⊤ Refusal}
+    → (r ≡ counting_in (request_made image (invoke_asked (data_within tail (entry_in (without_caller e))) fresh e.caller)))
     × (after ≡ image_after (request_made image (invoke_asked (data_within tail (entry_in (without_caller e))) fresh e.caller)) image)
-    → (r ≡ is_made (made_on image (entry_in e))) × (after ≡ image_after (made_on image (entry_in e)) image)
-made_by a image p = (p.0 ∙ ap is_made (a.made image), p.1 ∙ ap (λ (o : Option (List ℕ)). image_after o image) (a.made image))
+    → (r ≡ counting_in (made_on image (entry_in e))) × (after ≡ image_after (made_on image (entry_in e)) image)
+made_by a image p = (p.0 ∙ ap counting_in (a.made image), p.1 ∙ ap (λ (o : Option (List ℕ)). image_after o image) (a.made image))

@@ -3,6 +3,7 @@
 use Rattle.std.specs.Prelude.{ℕ, ⊤, Result, Ok, Err, Bool, true, false, cond, ◌&&◌, List, [], ltb}
 use Rattle.std.proofs.Math.Option.{Option, none, some}
 use Rattle.layout.specs.declared.refusals.Refusal.{Refusal}
+use Rattle.layout.specs.declared.refusals.Refusal.TheVariants.{Uncounted}
 use Rattle.work.specs.Entries.{left_of}
 use Rattle.making.specs.Run.{all_stores}
 use Rattle.journal.specs.Entries.{Entry, cold_boot, update, disabling, stash, extension, derive, extend, rotate, destroy}
@@ -63,6 +64,11 @@ made_on image (destroy handle caller) = request_made image (invoke_asked (destro
 abbrev pub is_made : Option (List ℕ) → Bool
 is_made none = false
 is_made (some after) = true
+
+-- and what is told of it
+abbrev pub counting_in : Option (List ℕ) → Result ⊤ Refusal
+counting_in none = Err Uncounted
+counting_in (some after) = Ok tt
 
 abbrev pub image_after : Option (List ℕ) → List ℕ → List ℕ
 image_after none image = image

@@ -1,27 +1,16 @@
 -- By what was read: a refusal, or parts, whose entry counts or does not.
 use mathlib.Core.Path.{sym, ap, ◌∙◌}
 use Rattle.std.proofs.lemmas.Result.{err_from_is_err_and}
-use Rattle.journal_bytes.specs.Results.{entry_in}
-use Rattle.recount.specs.OnImage.{made_on}
 use Rattle.inspection.specs.Stages.{counting_of, counted_on}
-use Rattle.inspection.proofs.Reading.{made, not_made, read_refuses, read_counts}
+use Rattle.inspection.proofs.Reading.{read_refuses, read_counts}
 use Rattle.inspection.proofs.feed.count_entry.Goals as goal
-
-pub returns-then-not-count : goal.returns-then-not-count
-returns-then-not-count c =
-    let scratch = c.args.scratch.now in
-    let told = read_counts scratch c.args.bytes.now c.in_ok-entry.entry c.in_ok-entry.field-0-1 c.in_ok-entry.ensures in
-    record {
-      value = not_made (made_on scratch (entry_in c.in_ok-entry.entry)) (sym c.count.ensures.value ∙ c.if-not-count.true) ∙ sym told.0;
-      scratch_after = c.count.ensures.image_after ∙ sym told.1;
-    }
 
 pub returns : goal.returns
 returns c =
     let scratch = c.args.scratch.now in
     let told = read_counts scratch c.args.bytes.now c.in_ok-entry.entry c.in_ok-entry.field-0-1 c.in_ok-entry.ensures in
     record {
-      value = made (made_on scratch (entry_in c.in_ok-entry.entry)) (sym c.count.ensures.value ∙ c.if-not-count.false) ∙ sym told.0;
+      value = c.count.ensures.value ∙ sym told.0;
       scratch_after = c.count.ensures.image_after ∙ sym told.1;
     }
 
