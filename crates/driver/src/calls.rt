@@ -1,33 +1,21 @@
 // The operations that are acts of the machine: openings, stores, answers, journal entries and cuts.
-use crate::input::{Act, bare};
 use crate::output::{put_report, put32};
-use machine::{InHand, Made, Op, Report, make};
+use machine::{Act, InHand, Report, perform};
 use std::io;
 use std::io::Write;
-
-// One act.
-fn act(given: Act, image: &mut [u32], hand: Option<InHand>, buffer: &mut [u8]) -> Made {
-    make(
-        given.op as u8,
-        image,
-        hand,
-        given.request,
-        given.boot,
-        buffer,
-    )
-}
 
 // An opening, an answer, a journal entry or a cut: writes what it reports. The work in hand then.
 pub(crate) fn one_act<W: Write>(
     out: &mut W,
     given: Act,
+    size: u16,
     image: &mut [u32],
     hand: Option<InHand>,
 ) -> io::Result<Option<InHand>> {
     let mut space = [0xA5; 65536];
-    let buffer = &mut space[..usize::from(given.size)];
-    let made = act(given, image, hand, buffer);
-    put_report(out, given.op, made.report, buffer)?;
+    let buffer = &mut space[..usize::from(size)];
+    let made = perform(given, image, hand, buffer);
+    put_report(out, given, made.report, buffer)?;
     Ok(made.hand)
 }
 
@@ -46,7 +34,7 @@ pub(crate) fn stores<W: Write>(
 ) -> io::Result<Option<InHand>> {
     let mut hand = hand;
     for made in 0..count {
-        let next = act(bare(Op::Store), image, hand, &mut []);
+        let next = perform(Act::Store, image, hand, &mut []);
         hand = next.hand;
         match next.report {
             Report::Stored(_) => {}

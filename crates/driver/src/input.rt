@@ -2,8 +2,10 @@
 ghost use Rattle.std.specs.Prelude.{◌≡◌, ◌+◌, ◌*◌, ◌<◌, ◌≤◌, length, IfSome, OnSome};
 ghost use Rattle.driver.specs.Run.{memory_words};
 
+use crate::parts::{Part, Unlisted};
+use crate::pieces::Count;
 use crate::state::MEMORY_WORDS;
-use machine::Op;
+use machine::Act;
 use opening::inputs::{BootInputs, RequestInputs};
 
 // The bytes of an image's words, which the memory has room for.
@@ -13,51 +15,20 @@ pub(crate) struct Image<'a> {
     ghost fits: { length bytes.now ≤ 4 * memory_words },
 }
 
-// An act of the machine, which uses those of the inputs that it has; the others are empty. Only an answer's or an
-// entry's buffer has a size.
-#[derive(Clone, Copy)]
-pub(crate) struct Act<'a> {
-    pub op: Op,
-    pub request: RequestInputs<'a>,
-    pub boot: BootInputs<'a>,
-    pub size: u16,
-}
-
-// An act with no inputs.
-pub(crate) fn bare(op: Op) -> Act<'static> {
-    Act {
-        op,
-        request: RequestInputs {
-            code: 0,
-            bytes: &[],
-            caller: 0,
-            handoff: &[],
-            verdict: false,
-            fresh: &[],
-        },
-        boot: BootInputs {
-            runtime: &[],
-            manifest: &[],
-            secret: &[],
-        },
-        size: 0,
-    }
-}
-
-// An operation: those on the image and the work in hand, and then those on the running digest. `Stores` has their
-// count, `Set` and `SetCount` what is set and its value.
+// An operation: those on the image and the work in hand, and then those on the running digest. `Act` has the size of its
+// buffer, which only an answer or an entry has, `Stores` their count, `Set` and `SetCount` what is set and its value.
 #[derive(Clone, Copy)]
 pub(crate) enum Operation<'a> {
     Lend(Image<'a>),
-    Act(Act<'a>),
+    Act(Act<'a>, u16),
     Stores(u32),
     Left,
-    Set(u8, u64),
+    Set(Result<Part, Unlisted>, u64),
     Dump,
     Begin,
     Feed(&'a [u8]),
     Finish,
-    SetCount(u8, u64),
+    SetCount(Result<Count, Unlisted>, u64),
 }
 
 // The input that is not read yet. Its methods give nothing where the input is cut short.
@@ -124,34 +95,8 @@ impl<'a> Input<'a> {
         Some(u8::from_le_bytes(self.take()?) == 1)
     }
 
-    fn cold_boot(&mut self) -> Option<Act<'a>>
-        ensures { OnSome result (length self.new.rest.now ≤ length self.old.rest.now) }
-    {
-        let boot = self.boot()?;
-        Some(Act {
-            boot,
-            ..bare(Op::ColdBoot)
-        })
-    }
-
-    fn update_boot(&mut self) -> Option<Act<'a>>
-        ensures { OnSome result (length self.new.rest.now ≤ length self.old.rest.now) }
-    {
-        let boot = self.boot()?;
-        let verdict = self.verdict()?;
-        let none = bare(Op::UpdateBoot);
-        Some(Act {
-            request: RequestInputs {
-                verdict,
-                ..none.request
-            },
-            boot,
-            ..none
-        })
-    }
-
     // A request: code, caller and verdict, then the handoff table, the request and the fresh handle.
-    fn request(&mut self) -> Option<Act<'a>>
+    fn request(&mut self) -> Option<RequestInputs<'a>>
         ensures { OnSome result (length self.new.rest.now ≤ length self.old.rest.now) }
     {
         let code = u32::from_le_bytes(self.take()?);
@@ -160,25 +105,14 @@ impl<'a> Input<'a> {
         let handoff = self.string()?;
         let bytes = self.string()?;
         let fresh = self.string()?;
-        Some(Act {
-            request: RequestInputs {
-                code,
-                bytes,
-                caller,
-                handoff,
-                verdict,
-                fresh,
-            },
-            ..bare(Op::Request)
+        Some(RequestInputs {
+            code,
+            bytes,
+            caller,
+            handoff,
+            verdict,
+            fresh,
         })
-    }
-
-    // An answer or a journal entry: the buffer's size.
-    fn taking(&mut self, op: Op) -> Option<Act<'a>>
-        ensures { OnSome result (length self.new.rest.now ≤ length self.old.rest.now) }
-    {
-        let size = u16::from_le_bytes(self.take()?);
-        Some(Act { size, ..bare(op) })
     }
 
     // The next operation. There is none at the end of the input, at an unknown letter, at an operation that the input
@@ -189,16 +123,16 @@ impl<'a> Input<'a> {
         let letter = u8::from_le_bytes(self.take()?);
         Some(match letter {
             b'I' => Operation::Lend(self.image()?),
-            b'C' => Operation::Act(self.cold_boot()?),
-            b'U' => Operation::Act(self.update_boot()?),
-            b'R' => Operation::Act(self.request()?),
+            b'C' => Operation::Act(Act::ColdBoot(self.boot()?), 0),
+            b'U' => Operation::Act(Act::UpdateBoot(self.boot()?, self.verdict()?), 0),
+            b'R' => Operation::Act(Act::Request(self.request()?), 0),
             b'S' => Operation::Stores(u32::from_le_bytes(self.take()?)),
-            b'A' => Operation::Act(self.taking(Op::Answer)?),
-            b'J' => Operation::Act(self.taking(Op::Entry)?),
+            b'A' => Operation::Act(Act::Answer, u16::from_le_bytes(self.take()?)),
+            b'J' => Operation::Act(Act::Entry, u16::from_le_bytes(self.take()?)),
             b'L' => Operation::Left,
-            b'X' => Operation::Act(bare(Op::PowerCut)),
+            b'X' => Operation::Act(Act::PowerCut, 0),
             b'W' => Operation::Set(
-                u8::from_le_bytes(self.take()?),
+                Part::try_from(u8::from_le_bytes(self.take()?)),
                 u64::from_le_bytes(self.take()?),
             ),
             b'D' => Operation::Dump,
@@ -210,7 +144,7 @@ impl<'a> Input<'a> {
             }
             b'e' => Operation::Finish,
             b'w' => Operation::SetCount(
-                u8::from_le_bytes(self.take()?),
+                Count::try_from(u8::from_le_bytes(self.take()?)),
                 u64::from_le_bytes(self.take()?),
             ),
             _ => return None,

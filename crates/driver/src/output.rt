@@ -3,7 +3,7 @@ ghost use Rattle.std.specs.Prelude.{◌≤◌, length};
 ghost use Rattle.driver.specs.Run.{memory_words};
 
 use crate::state::MEMORY_WORDS;
-use machine::{Op, Report};
+use machine::{Act, Report};
 use opening::Outcome;
 use sha384::errors::DigestError;
 use std::io;
@@ -44,7 +44,7 @@ fn put_entry<W: Write>(out: &mut W, number: u32, length: usize, buffer: &[u8]) -
 // What an act reports. An opening's number is 0 where it is accepted, and what it gave stands behind.
 pub(crate) fn put_report<W: Write>(
     out: &mut W,
-    op: Op,
+    given: Act,
     report: Report,
     buffer: &[u8],
 ) -> io::Result<()> {
@@ -57,7 +57,7 @@ pub(crate) fn put_report<W: Write>(
         Report::Booted(outcome, left) => put_booted(out, outcome, left),
         Report::Answered(number, _) => put_answer(out, number, buffer),
         Report::Recorded(number, length) => put_entry(out, number, length, buffer),
-        Report::NoWork if op == Op::Entry => put_entry(out, NO_WORK, 0, buffer),
+        Report::NoWork if matches!(given, Act::Entry) => put_entry(out, NO_WORK, 0, buffer),
         Report::NoWork => put_answer(out, NO_WORK, buffer),
         Report::Stored(_) | Report::CutOff => Ok(()),
     }

@@ -13,8 +13,40 @@ use table::Kind;
 use table::coding::{Coded, decode, encode};
 use work::Work;
 
-// The part of a destroy's first freed index.
+// The number of a destroy's first freed index as a part.
 const FREED_PART: u8 = 16;
+
+// A part of a work in hand. The first index is the node of a stash, a derive, an extend or a rotate, an update's root or
+// an extension's register; the second the node that a stash or a derive retires; a freed one is one of a destroy's.
+#[derive(Clone, Copy, Debug, PartialEq, Eq)]
+pub(crate) enum Part {
+    Position,
+    First,
+    Second,
+    AnswerLen,
+    FreedCount,
+    Freed(usize),
+}
+
+// A number that no part or count has.
+#[derive(Clone, Copy, Debug, PartialEq, Eq)]
+pub(crate) struct Unlisted(pub u8);
+
+impl TryFrom<u8> for Part {
+    type Error = Unlisted;
+
+    fn try_from(n: u8) -> Result<Part, Unlisted> {
+        match n {
+            0 => Ok(Part::Position),
+            1 => Ok(Part::First),
+            2 => Ok(Part::Second),
+            3 => Ok(Part::AnswerLen),
+            4 => Ok(Part::FreedCount),
+            FREED_PART.. => Ok(Part::Freed(usize::from(n - FREED_PART))),
+            _ => Err(Unlisted(n)),
+        }
+    }
+}
 
 // An image's words into the front of the memory. How many they are.
 pub(crate) fn load(image: Image, memory: &mut [u32; MEMORY_WORDS]) -> usize
@@ -35,32 +67,23 @@ pub(crate) fn put_left<W: Write>(out: &mut W, hand: Option<InHand>) -> io::Resul
     }
 }
 
-// A kind with another first number, where it has one: the node of a stash, a derive, an extend or a rotate, an update's
-// root, an extension's register, how many nodes a destroy frees.
-fn with_first(kind: Kind, value: usize) -> Kind {
-    decode(Coded {
-        first: value,
-        ..encode(kind)
-    })
-}
-
-// A kind with another second index, where it has one: the node that a stash or a derive retires.
-fn with_second(kind: Kind, value: usize) -> Kind {
-    decode(Coded {
-        second: value,
-        ..encode(kind)
-    })
-}
-
-// The kind with one part set: 1 the first index, 2 the second, 4 the number of freed nodes, which is no index.
-fn with_index(kind: Kind, part: u8, value: usize) -> Kind {
-    match (kind, part) {
-        (Kind::Destroy(_), 4) => with_first(kind, value),
-        (Kind::Destroy(_), 1) => kind,
-        (_, 1) => with_first(kind, value),
-        (_, 2) => with_second(kind, value),
-        _ => kind,
-    }
+// A kind with one index set, or the number of nodes that a destroy frees, which is no index. A kind that has no such
+// part stays.
+fn with_index(kind: Kind, part: Part, value: usize) -> Kind {
+    let coded = encode(kind);
+    let changed = match (kind, part) {
+        (Kind::Destroy(_), Part::First) => coded,
+        (Kind::Destroy(_), Part::FreedCount) | (_, Part::First) => Coded {
+            first: value,
+            ..coded
+        },
+        (_, Part::Second) => Coded {
+            second: value,
+            ..coded
+        },
+        _ => coded,
+    };
+    decode(changed)
 }
 
 // A destroy with another freed index: one that fits no word is beyond the nodes like any other, and takes the highest.
@@ -72,22 +95,21 @@ fn with_freed(work: Work, i: usize, value: usize) -> Work {
     changed
 }
 
-// The work in hand with one part set: 0 position, 1 first index, 2 second index, 3 answer length, 4 the number of freed
-// nodes, and from FREED_PART on the freed indices.
-pub(crate) fn with_part(hand: Option<InHand>, part: u8, value: usize) -> Option<InHand> {
+// The work in hand with one part set.
+pub(crate) fn with_part(hand: Option<InHand>, part: Part, value: usize) -> Option<InHand> {
     let held = hand?;
     let work = held.work;
     let work = match part {
-        0 => Work {
+        Part::Position => Work {
             position: value,
             ..work
         },
-        3 => Work {
+        Part::AnswerLen => Work {
             answer_len: value,
             ..work
         },
-        FREED_PART.. => with_freed(work, usize::from(part - FREED_PART), value),
-        _ => Work {
+        Part::Freed(i) => with_freed(work, i, value),
+        Part::First | Part::Second | Part::FreedCount => Work {
             kind: with_index(work.kind, part, value),
             ..work
         },

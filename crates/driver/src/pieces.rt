@@ -1,5 +1,6 @@
 // The operations on the running digest, which lives beside the image and the work in hand.
 use crate::output::put32;
+use crate::parts::Unlisted;
 use running::Running;
 use std::io;
 use std::io::Write;
@@ -15,17 +16,35 @@ pub(crate) fn feed<W: Write>(out: &mut W, state: Running, slice: &[u8]) -> io::R
     Ok(after)
 }
 
-// A state with one count set: 0 the total, 1 the number waiting; another changes nothing.
-pub(crate) fn with_count(state: Running, count: u8, value: u64) -> Running {
+// A count of the running digest: the total, or the number waiting.
+#[derive(Clone, Copy, Debug, PartialEq, Eq)]
+pub(crate) enum Count {
+    Total,
+    Waiting,
+}
+
+impl TryFrom<u8> for Count {
+    type Error = Unlisted;
+
+    fn try_from(n: u8) -> Result<Count, Unlisted> {
+        match n {
+            0 => Ok(Count::Total),
+            1 => Ok(Count::Waiting),
+            _ => Err(Unlisted(n)),
+        }
+    }
+}
+
+// A state with one count set.
+pub(crate) fn with_count(state: Running, count: Count, value: u64) -> Running {
     match count {
-        0 => Running {
+        Count::Total => Running {
             total: value,
             ..state
         },
-        1 => Running {
+        Count::Waiting => Running {
             waiting: value,
             ..state
         },
-        _ => state,
     }
 }

@@ -52,23 +52,25 @@ impl State {
                 self.words = load(image, &mut self.memory);
                 self.hand = None;
             }
-            Operation::Act(act) => {
-                self.hand = one_act(out, act, &mut self.memory[..words], hand)?;
+            Operation::Act(act, size) => {
+                self.hand = one_act(out, act, size, &mut self.memory[..words], hand)?;
             }
             Operation::Stores(count) => {
                 self.hand = stores(out, count, &mut self.memory[..words], hand)?;
             }
             Operation::Left => put_left(out, hand)?,
-            Operation::Set(part, value) => {
+            Operation::Set(Ok(part), value) => {
                 self.hand = with_part(hand, part, value as usize);
             }
             Operation::Dump => put_image(out, &self.memory[..words])?,
             Operation::Begin => self.digest = running::begin(),
             Operation::Feed(slice) => self.digest = feed(out, self.digest, slice)?,
             Operation::Finish => put_digest(out, self.digest.finish())?,
-            Operation::SetCount(count, value) => {
+            Operation::SetCount(Ok(count), value) => {
                 self.digest = with_count(self.digest, count, value);
             }
+            // What is set by an unlisted number is nothing.
+            Operation::Set(Err(_), _) | Operation::SetCount(Err(_), _) => {}
         }
         Ok(())
     }

@@ -15,6 +15,8 @@ use Rattle.journal.specs.Entries.{Entry, read_entry, longest}
 use Rattle.recount.specs.OnImage.{made_on, counting_in, image_after}
 use Rattle.replaying.specs.Report.{image_bytes, journal_max, compared_at}
 use Rattle.inspection.specs.declared.reader.Reader.{Reader}
+use Rattle.inspection.specs.declared.finish.Verdict.{Verdict}
+use Rattle.inspection.specs.declared.finish.Verdict.TheVariants.{Empty, Disabled, Unlike, Alike}
 use Rattle.layout.specs.declared.bytes.Bytes.{Bytes}
 
 -- ---- what is kept: the reader, the saved image's bytes, and the image on which entries are counted
@@ -109,6 +111,13 @@ verdict_at x =
     (cond (same_from x.saved x.scratch) 3 2 ∷ bytes_in (4 * told_words) (part told_words x.scratch compared_at))
     (1 ∷ []))
     (0 ∷ [])
+
+-- a verdict's byte
+abbrev pub verdict_number : Verdict → ℕ
+verdict_number Empty = 0
+verdict_number Disabled = 1
+verdict_number Unlike = 2
+verdict_number Alike = 3
 
 -- a refusal's number and offset, or what is told without one
 abbrev pub told_of : code.Option Refusal → ℕ → List ℕ → List ℕ

@@ -4,7 +4,7 @@ ghost use Rattle.layout.specs.Numbers.{refusal_number};
 ghost use Rattle.layout.specs.Words.{bytes4, bytes8, bytes_in, part};
 ghost use Rattle.replaying.specs.Report.{compared_at};
 ghost use Rattle.inspection.specs.declared.reader.Reader.{Reader};
-ghost use Rattle.inspection.specs.Stages.{stage_of, told_words, told_in, same_from, verdict_at, told};
+ghost use Rattle.inspection.specs.Stages.{stage_of, told_words, told_in, same_from, verdict_number, verdict_at, told};
 
 use crate::reader::{IMAGE_BYTES, Reader};
 use layout::bytes::Bytes;
@@ -23,6 +23,29 @@ const REGISTER_BYTES: usize = 4 * REGISTER_WORDS * (REGISTERS - 2);
 
 // The most bytes: with a verdict's byte between those.
 pub const TOLD_MAX: usize = HEAD_BYTES + 1 + REGISTER_BYTES;
+
+// What a journal of which nothing is refused comes to beside the saved image: no cold boot, a disabling after the
+// last one, or PCR2 to PCR31 and nodes that are unlike the image's or alike.
+#[derive(Clone, Copy, Debug, PartialEq, Eq)]
+enum Verdict {
+    Empty,
+    Disabled,
+    Unlike,
+    Alike,
+}
+
+impl From<Verdict> for u8 {
+    ghost from_gives = { λ v n. n ≡ verdict_number v };
+
+    fn from(verdict: Verdict) -> u8 {
+        match verdict {
+            Verdict::Empty => 0,
+            Verdict::Disabled => 1,
+            Verdict::Unlike => 2,
+            Verdict::Alike => 3,
+        }
+    }
+}
 
 // A number and an offset, little endian.
 fn head(number: u32, offset: usize) -> [u8; HEAD_BYTES]
@@ -57,40 +80,36 @@ fn refused(refusal: Refusal, offset: usize) -> Bytes<TOLD_MAX>
 fn same(saved: &[u8], scratch: &[u32]) -> bool
     ensures { result ≡ same_from saved.now scratch.now }
 {
-    for k in 0..COMPARED {
-        if read32(saved, 4 * (PCR2_AT + k)) != word(scratch, PCR2_AT + k) {
-            return false;
-        }
-    }
-    true
+    (0..COMPARED).all(|k| read32(saved, 4 * (PCR2_AT + k)) == word(scratch, PCR2_AT + k))
 }
 
 // A verdict's byte, and the bytes of PCR2 to PCR31.
-fn with_registers(verdict: u8, scratch: &[u32]) -> [u8; 1 + REGISTER_BYTES]
-    ensures { result ≡ verdict ∷ bytes_in (4 * told_words) (part told_words scratch.now compared_at) }
+fn with_registers(verdict: Verdict, scratch: &[u32]) -> [u8; 1 + REGISTER_BYTES]
+    ensures { result ≡ verdict_number verdict ∷ bytes_in (4 * told_words) (part told_words scratch.now compared_at) }
 {
     let mut out = [0u8; 1 + REGISTER_BYTES];
-    out[0] = verdict;
+    out[0] = u8::from(verdict);
     for k in 0..REGISTER_BYTES {
         out[1 + k] = byte_of(word(scratch, PCR2_AT + k / 4), k % 4);
     }
     out
 }
 
-fn verdict(saved: &[u8], scratch: &[u32]) -> Bytes<TOLD_MAX>
+// What is written where nothing is refused.
+fn judged(saved: &[u8], scratch: &[u32]) -> Bytes<TOLD_MAX>
     ensures { (reader : Reader) → result ≡ told_in (bytes4 0 ++ (bytes8 0 ++ verdict_at (stage_of reader saved.now scratch.now))) }
 {
     let front = head(0, 0);
     if word(scratch, MARK_AT) != 1 {
-        return joined(front, &[0]);
+        return joined(front, &[u8::from(Verdict::Empty)]);
     }
     if word(scratch, ATTESTATION_AT) != 1 {
-        return joined(front, &[1]);
+        return joined(front, &[u8::from(Verdict::Disabled)]);
     }
     if !same(saved, scratch) {
-        return joined(front, &with_registers(2, scratch));
+        return joined(front, &with_registers(Verdict::Unlike, scratch));
     }
-    joined(front, &with_registers(3, scratch))
+    joined(front, &with_registers(Verdict::Alike, scratch))
 }
 
 // What is written once the input has ended.
@@ -106,5 +125,5 @@ pub fn finish(reader: Reader, saved: &[u8], scratch: &[u32]) -> Bytes<TOLD_MAX>
     if reader.held != 0 {
         return refused(Refusal::CutEntry, reader.offset);
     }
-    verdict(saved, scratch)
+    judged(saved, scratch)
 }

@@ -11,6 +11,9 @@ use Rattle.machine.specs.declared.Report.{Report}
 use Rattle.machine.specs.declared.Report.TheVariants.{Refused, Opened, Booted, Stored, Answered, Recorded, NoWork, CutOff}
 use Rattle.machine.specs.declared.Made.{Made}
 use Rattle.machine.specs.declared.Op.{Op}
+use Rattle.machine.specs.declared.Act as declared
+use Rattle.machine.specs.declared.Act.TheVariants as given
+use Rattle.opening.specs.Lent.{request_in, boot_in}
 
 -- the machine's work in hand, if there is one
 unfoldable pub hand_of : Option InHand → math.Option Hand
@@ -30,6 +33,16 @@ op_of n =
     (cond (eqb n 3) Op.ColdBoot
     (cond (eqb n 4) Op.Answer
     (cond (eqb n 5) Op.Entry Op.PowerCut)))))
+
+-- an act with what it takes
+unfoldable pub act_in : declared.Act → List ℕ → Act
+act_in (given.Request r) buffer = call (request (request_in r))
+act_in (given.UpdateBoot x verdict) buffer = call (update_boot (boot_in x) verdict)
+act_in given.Store buffer = call store
+act_in (given.ColdBoot x) buffer = open_cold (boot_in x)
+act_in given.Answer buffer = call (answer buffer)
+act_in given.Entry buffer = call (entry buffer)
+act_in given.PowerCut buffer = call power_cut
 
 -- an act of these inputs; ROM's verdict stands in the request
 unfoldable pub act_by : Op → Request → BootInputs → List ℕ → Act

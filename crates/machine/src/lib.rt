@@ -7,7 +7,7 @@ mod calls;
 ghost use Rattle.std.specs.Prelude.{◌≡◌};
 ghost use Rattle.history.specs.Calls.{act};
 ghost use Rattle.opening.specs.Lent.{request_in, boot_in};
-ghost use Rattle.machine.specs.Call.{machine_of, op_of, act_of, step_of, buffer_after};
+ghost use Rattle.machine.specs.Call.{machine_of, op_of, act_in, act_of, step_of, buffer_after};
 
 use crate::calls::{
     answer_call, cold_boot_call, cut_call, entry_call, request_call, store_call, update_boot_call,
@@ -73,6 +73,34 @@ impl From<u8> for Op {
     }
 }
 
+// An act with what it takes beside the image, the work in hand and a buffer; an update boot takes ROM's verdict.
+#[derive(Clone, Copy)]
+pub enum Act<'a> {
+    Request(RequestInputs<'a>),
+    UpdateBoot(BootInputs<'a>, bool),
+    Store,
+    ColdBoot(BootInputs<'a>),
+    Answer,
+    Entry,
+    PowerCut,
+}
+
+// One act.
+pub fn perform(given: Act, image: &mut [u32], hand: Option<InHand>, buffer: &mut [u8]) -> Made
+    ensures step_made { step_of result image.new buffer.new ≡ act (machine_of image.old hand) (act_in given.entry buffer.old) }
+    ensures buffer_left { buffer.new ≡ buffer_after (act (machine_of image.old hand) (act_in given.entry buffer.old)).result buffer.old }
+{
+    match given {
+        Act::Request(with) => request_call(&image[..], hand, with),
+        Act::UpdateBoot(with, verdict) => update_boot_call(&image[..], hand, with, verdict),
+        Act::Store => store_call(image, hand),
+        Act::ColdBoot(with) => cold_boot_call(&image[..], hand, with),
+        Act::Answer => answer_call(hand, buffer),
+        Act::Entry => entry_call(hand, buffer),
+        Act::PowerCut => cut_call(hand),
+    }
+}
+
 // One act, by its number.
 pub fn make(
     op: u8,
@@ -86,12 +114,12 @@ pub fn make(
     ensures buffer_left { buffer.new ≡ buffer_after (act (machine_of image.old hand) (act_of op (request_in request.entry) (boot_in boot.entry) buffer.old)).result buffer.old }
 {
     match Op::from(op) {
-        Op::Request => request_call(&image[..], hand, request),
-        Op::UpdateBoot => update_boot_call(&image[..], hand, boot, request.verdict),
-        Op::Store => store_call(image, hand),
-        Op::ColdBoot => cold_boot_call(&image[..], hand, boot),
-        Op::Answer => answer_call(hand, buffer),
-        Op::Entry => entry_call(hand, buffer),
-        Op::PowerCut => cut_call(hand),
+        Op::Request => perform(Act::Request(request), image, hand, buffer),
+        Op::UpdateBoot => perform(Act::UpdateBoot(boot, request.verdict), image, hand, buffer),
+        Op::Store => perform(Act::Store, image, hand, buffer),
+        Op::ColdBoot => perform(Act::ColdBoot(boot), image, hand, buffer),
+        Op::Answer => perform(Act::Answer, image, hand, buffer),
+        Op::Entry => perform(Act::Entry, image, hand, buffer),
+        Op::PowerCut => perform(Act::PowerCut, image, hand, buffer),
     }
 }

@@ -1,47 +1,31 @@
--- The act is the same on both sides; only an answer or an entry writes the buffer (`made`).
-use Rattle.machine.specs.Call.{act_by}
-use Rattle.machine.proofs.Steps.{made}
+-- The number picks the act on both sides.
+use Rattle.machine.specs.Call.{act_by, act_in}
 use Rattle.machine.proofs.make.Goals as goal
 
 pub returns-in-Request : goal.returns-in-Request
-unfolding act_by
-returns-in-Request c =
-    let r = made c.request_call.result _ _ c.request_call.ensures c.args.buffer.now in
-    rw (← c.from.ensures, c.in-Request.is) record { step_made = r.0; buffer_left = r.1 }
+unfolding act_by act_in
+returns-in-Request c = rw (← c.from.ensures, c.in-Request.is) record { step_made = c.perform.ensures.step_made; buffer_left = c.perform.ensures.buffer_left }
 
 pub returns-in-UpdateBoot : goal.returns-in-UpdateBoot
-unfolding act_by
-returns-in-UpdateBoot c =
-    let r = made c.update_boot_call.result _ _ c.update_boot_call.ensures c.args.buffer.now in
-    rw (← c.from.ensures, c.in-UpdateBoot.is) record { step_made = r.0; buffer_left = r.1 }
+unfolding act_by act_in
+returns-in-UpdateBoot c = rw (← c.from.ensures, c.in-UpdateBoot.is) record { step_made = c.perform-in-UpdateBoot.ensures.step_made; buffer_left = c.perform-in-UpdateBoot.ensures.buffer_left }
 
 pub returns-in-Store : goal.returns-in-Store
-unfolding act_by
-returns-in-Store c =
-    let r = made c.store_call.result _ _ c.store_call.ensures c.args.buffer.now in
-    rw (← c.from.ensures, c.in-Store.is) record { step_made = r.0; buffer_left = r.1 }
+unfolding act_by act_in
+returns-in-Store c = rw (← c.from.ensures, c.in-Store.is) record { step_made = c.perform-in-Store.ensures.step_made; buffer_left = c.perform-in-Store.ensures.buffer_left }
 
 pub returns-in-ColdBoot : goal.returns-in-ColdBoot
-unfolding act_by
-returns-in-ColdBoot c =
-    let r = made c.cold_boot_call.result _ _ c.cold_boot_call.ensures c.args.buffer.now in
-    rw (← c.from.ensures, c.in-ColdBoot.is) record { step_made = r.0; buffer_left = r.1 }
+unfolding act_by act_in
+returns-in-ColdBoot c = rw (← c.from.ensures, c.in-ColdBoot.is) record { step_made = c.perform-in-ColdBoot.ensures.step_made; buffer_left = c.perform-in-ColdBoot.ensures.buffer_left }
 
 pub returns-in-Answer : goal.returns-in-Answer
-unfolding act_by
-returns-in-Answer c =
-    let image = c.args.image.now in
-    rw (← c.from.ensures, c.in-Answer.is) record { step_made = c.answer_call.ensures.step_made image; buffer_left = c.answer_call.ensures.buffer_left image }
+unfolding act_by act_in
+returns-in-Answer c = rw (← c.from.ensures, c.in-Answer.is) record { step_made = c.perform-in-Answer.ensures.step_made; buffer_left = c.perform-in-Answer.ensures.buffer_left }
 
 pub returns-in-Entry : goal.returns-in-Entry
-unfolding act_by
-returns-in-Entry c =
-    let image = c.args.image.now in
-    rw (← c.from.ensures, c.in-Entry.is) record { step_made = c.entry_call.ensures.step_made image; buffer_left = c.entry_call.ensures.buffer_left image }
+unfolding act_by act_in
+returns-in-Entry c = rw (← c.from.ensures, c.in-Entry.is) record { step_made = c.perform-in-Entry.ensures.step_made; buffer_left = c.perform-in-Entry.ensures.buffer_left }
 
 pub returns-in-PowerCut : goal.returns-in-PowerCut
-unfolding act_by
-returns-in-PowerCut c =
-    let a = c.args in
-    let r = made c.cut_call.result _ _ (c.cut_call.ensures a.image.now) a.buffer.now in
-    rw (← c.from.ensures, c.in-PowerCut.is) record { step_made = r.0; buffer_left = r.1 }
+unfolding act_by act_in
+returns-in-PowerCut c = rw (← c.from.ensures, c.in-PowerCut.is) record { step_made = c.perform-in-PowerCut.ensures.step_made; buffer_left = c.perform-in-PowerCut.ensures.buffer_left }

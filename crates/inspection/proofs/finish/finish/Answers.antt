@@ -20,4 +20,4 @@ returns-then-reader-ne0 c =
 pub returns : goal.returns
 returns c =
     let x = stage_of c.args.reader c.args.saved.now c.args.scratch.now in
-    rw (told_going x c.if-reader-lt-IMAGE_BYTES.false c.in_default.is, eq-eqb _ 0 c.if-reader-ne0.false) (c.verdict.ensures c.args.reader)
+    rw (told_going x c.if-reader-lt-IMAGE_BYTES.false c.in_default.is, eq-eqb _ 0 c.if-reader-ne0.false) (c.judged.ensures c.args.reader)

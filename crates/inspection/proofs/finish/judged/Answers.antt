@@ -1,24 +1,24 @@
 -- By mark, attestation and comparison.
 use Prim.Native.Nat.{ℕ}
-use mathlib.Core.Path.{ap, ap₂, ◌∙◌}
+use mathlib.Core.Path.{ap₂, ◌∙◌}
 use mathlib.Core.List.{List, [], ◌∷◌, ◌++◌}
 use borrow.Author.Tests.{eq-eqb, ne_eqb}
 use Rattle.layout.proofs.Cases.{told}
 use Rattle.inspection.specs.Stages.{told_in, verdict_at}
-use Rattle.inspection.proofs.finish.verdict.Goals as goal
+use Rattle.inspection.proofs.finish.judged.Goals as goal
 
 pub returns-then-word-ne1 : goal.returns-then-word-ne1
 unfolding verdict_at
 returns-then-word-ne1 c = λ r.
     rw (ne_eqb _ 1 (λ e. c.if-word-ne1.true (c.word.ensures ∙ e)))
-    (c.joined.ensures ∙ ap (λ (l : List ℕ). told_in (l ++ (0 ∷ []))) c.head-front.ensures)
+    (c.joined.ensures ∙ ap₂ (λ (l : List ℕ) (n : ℕ). told_in (l ++ (n ∷ []))) c.head-front.ensures c.from.ensures)
 
 pub returns-then-word-ne1-2 : goal.returns-then-word-ne1-2
 unfolding verdict_at
 returns-then-word-ne1-2 c = λ r.
     rw
     (eq-eqb _ 1 (told c.word.ensures c.if-word-ne1.false), ne_eqb _ 1 (λ e. c.if-word-ne1-2.true (c.word-2.ensures ∙ e)))
-    (c.joined-then-word-ne1-2.ensures ∙ ap (λ (l : List ℕ). told_in (l ++ (1 ∷ []))) c.head-front.ensures)
+    (c.joined-then-word-ne1-2.ensures ∙ ap₂ (λ (l : List ℕ) (n : ℕ). told_in (l ++ (n ∷ []))) c.head-front.ensures c.from-then-word-ne1-2.ensures)
 
 pub returns-then-not-same : goal.returns-then-not-same
 unfolding verdict_at
