@@ -1,4 +1,4 @@
-// What every boot tests first: the image's length, and its inputs.
+// What a cold boot tests first: the image's length, and its inputs. An update boot tests the length itself.
 ghost use Rattle.std.specs.Prelude.{◌≡◌};
 ghost use Rattle.opening.specs.Lent.{boot_in};
 ghost use Rattle.boot.specs.Given.{Screens};

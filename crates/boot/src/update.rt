@@ -9,12 +9,11 @@ ghost use Rattle.opening.specs.Works.{work_at, update_values};
 ghost use Rattle.opening.specs.Openings.{boot_number, outcome_in, root_matches, intact, open_update_boot};
 ghost use Rattle.boot.specs.Given.{given, update_ruled};
 
-use crate::inputs::{Inputs, digests_of, extend_by_boot};
+use crate::inputs::{Inputs, accepted, digests_of, extend_by_boot};
 use crate::ready::ready_with;
-use crate::screen::screened;
 use layout::refusals::Refusal;
 use layout::{
-    ATTESTATION_AT, CUMULATIVE_AT, CURRENT_AT, MARK_AT, NODE_WORDS, NODES_AT, PCR3_AT,
+    ATTESTATION_AT, CUMULATIVE_AT, CURRENT_AT, IMAGE_WORDS, MARK_AT, NODE_WORDS, NODES_AT, PCR3_AT,
     REGISTER_WORDS,
 };
 use making::{Values, bare_work};
@@ -84,7 +83,11 @@ fn updated(image: &[u32], x: Inputs) -> Work
 fn update_work(image: &[u32], lent: BootInputs, verdict: bool) -> Result<(Work, Outcome), Refusal>
     ensures { result ≡ update_ruled image.now (boot_in lent.entry) verdict }
 {
-    let x = screened(image, lent)?;
+    // Tested here and not by `screened`, so that what follows is compiled for an image of this length.
+    if image.len() != IMAGE_WORDS {
+        return Err(Refusal::WrongImage);
+    }
+    let x = accepted(lent)?;
     if !is_intact(image) {
         return Ok((bare_work(Kind::Disabling), Outcome::Disabled));
     }

@@ -1,17 +1,12 @@
 -- What the digest entry and a finish of the running digest answer, as document 01 and document 02, request 12, tell it: a number and 48 bytes for each
--- case of their `Result`. Nothing rests on it. Assumes nothing.
-use Rattle.std.specs.Prelude.{ℕ, ◌≡◌, ◌<◌, ◌≤◌, true, false, List, length, replicate, Result, Ok, Err}
+-- case of their `Result`, those that `numbered` (sha384/Errors) has in one. Nothing rests on it. Assumes nothing.
+use Rattle.std.specs.Prelude.{ℕ, ◌≡◌, ◌<◌, ◌≤◌, true, false, List, length, replicate, Result}
 use Rattle.sha384.specs.Sha384.{sha384}
 use Rattle.sha384.specs.Entries.{longest, digest_of, concluded}
-use Rattle.sha384.specs.Errors.{number_of}
+use Rattle.sha384.specs.Errors.{number_of, bytes_of}
 use Rattle.sha384.specs.declared.errors.DigestError.{DigestError}
 use Rattle.running.specs.declared.Running.{Running}
 use Rattle.running.specs.Running.{agrees, finish_result}
-
--- the bytes of an answer: the digest, or "48 zero bytes"
-abbrev pub bytes_of : Result (List ℕ) DigestError → List ℕ
-bytes_of (Ok d) = d
-bytes_of (Err e) = replicate 48 0
 
 -- an answer with this number and these bytes
 pub record Answers (r : Result (List ℕ) DigestError) (number : ℕ) (bytes : List ℕ) : Type 0 where

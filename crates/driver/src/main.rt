@@ -49,11 +49,12 @@ enum RunError {
     Unwritten,
 }
 
+// A message is its whole line in one write, so that it stays in one piece on a shared stream.
 impl fmt::Display for RunError {
     fn fmt<W: fmt::Write>(&self, f: &mut fmt::Formatter<W>) -> fmt::Result {
         f.write_str(match self {
-            RunError::Unread => "the input cannot be read: nothing was run",
-            RunError::Unwritten => "the output cannot be written: the run ended there",
+            RunError::Unread => "driver: the input cannot be read: nothing was run\n",
+            RunError::Unwritten => "driver: the output cannot be written: the run ended there\n",
         })
     }
 }
@@ -81,6 +82,6 @@ fn play<R: Read, W: Write>(input: &mut R, out: &mut W) -> Result<(), RunError> {
 // A message that cannot be written either is lost.
 fn main(rt: HostRuntime) {
     if let Err(error) = play(&mut rt.stdin(), &mut rt.stdout()) {
-        let _ = writeln!(rt.stderr(), "driver: {error}");
+        let _ = write!(rt.stderr(), "{error}");
     }
 }

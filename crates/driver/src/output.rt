@@ -1,18 +1,22 @@
 // Writing what an operation gave.
-ghost use Rattle.std.specs.Prelude.{◌≤◌, length};
+ghost use Rattle.std.specs.Prelude.{◌≤◌, ◌++◌, length, OnOk};
+ghost use Rattle.std.specs.Int.{w32, to_le_bytes};
+ghost use Rattle.std.specs.Io.KnownBytes.{Appends};
 ghost use Rattle.driver.specs.Run.{memory_words};
 
 use crate::state::MEMORY_WORDS;
 use machine::{Act, Report};
 use opening::Outcome;
-use sha384::errors::DigestError;
+use sha384::digest::DigestResult;
 use std::io;
 use std::io::Write;
 
 // What is written for a number of the work in hand where there is none: the output has numbers.
 pub const NO_WORK: u32 = 0xFFFFFFFF;
 
-pub(crate) fn put32<W: Write>(out: &mut W, n: u32) -> io::Result<()> {
+pub(crate) fn put32<W: Write>(out: &mut W, n: u32) -> io::Result<()>
+    ensures { OnOk result (Appends (W.contents out.old) (W.contents out.new) (to_le_bytes w32 n)) }
+{
     out.write_all(&n.to_le_bytes())
 }
 
@@ -63,17 +67,12 @@ pub(crate) fn put_report<W: Write>(
     }
 }
 
-// What a finish of the running digest gives: its number and the digest, or zeros where it is refused.
-pub(crate) fn put_digest<W: Write>(
-    out: &mut W,
-    done: Result<[u8; 48], DigestError>,
-) -> io::Result<()> {
-    let (number, bytes) = match done {
-        Ok(bytes) => (0, bytes),
-        Err(error) => (u32::from(error), [0u8; 48]),
-    };
-    put32(out, number)?;
-    out.write_all(&bytes)
+// What a finish of the running digest gives: its number and 48 bytes.
+pub(crate) fn put_digest<W: Write>(out: &mut W, done: DigestResult) -> io::Result<()>
+    ensures { OnOk result (Appends (W.contents out.old) (W.contents out.new) (to_le_bytes w32 done.number ++ done.bytes)) }
+{
+    put32(out, done.number)?;
+    out.write_all(&done.bytes)
 }
 
 // An image: its word count, and its words.

@@ -1,18 +1,29 @@
 // The operations on the running digest, which lives beside the image and the work in hand.
+ghost use Rattle.std.specs.Prelude.{◌≡◌};
+ghost use Rattle.sha384.specs.Errors.{number_of};
+
 use crate::output::put32;
 use crate::parts::Unlisted;
 use running::Running;
+use sha384::errors::DigestError;
 use std::io;
 use std::io::Write;
+
+// The number of a feed: 0 where it is accepted.
+fn number_of(fed: Result<(), DigestError>) -> u32
+    ensures { result ≡ number_of fed }
+{
+    match fed {
+        Ok(()) => 0,
+        Err(error) => u32::from(error),
+    }
+}
 
 // Feeds a slice, and writes the number. The state then.
 pub(crate) fn feed<W: Write>(out: &mut W, state: Running, slice: &[u8]) -> io::Result<Running> {
     let mut after = state;
-    let number = match after.feed(slice) {
-        Ok(()) => 0,
-        Err(error) => u32::from(error),
-    };
-    put32(out, number)?;
+    let fed = after.feed(slice);
+    put32(out, number_of(fed))?;
     Ok(after)
 }
 

@@ -65,7 +65,7 @@ impl State {
             Operation::Dump => put_image(out, &self.memory[..words])?,
             Operation::Begin => self.digest = running::begin(),
             Operation::Feed(slice) => self.digest = feed(out, self.digest, slice)?,
-            Operation::Finish => put_digest(out, self.digest.finish())?,
+            Operation::Finish => put_digest(out, self.digest.finish_numbered())?,
             Operation::SetCount(Ok(count), value) => {
                 self.digest = with_count(self.digest, count, value);
             }

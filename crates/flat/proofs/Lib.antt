@@ -1,4 +1,3 @@
 -- Laws that belong to no one function.
 pub mod Rows
 pub mod Back
-pub mod Opens

@@ -1,11 +1,9 @@
 -- The entries' C forms over a lent buffer of words. Each is the entry's own definition, of the work that the words are (Flat), and is defined
 -- for every buffer: one of another length than a work's gets a number of its own, and nothing is written. Assumes nothing.
 use Rattle.std.specs.Prelude.{ℕ, ◌+◌, ⊤, Result, Ok, Err, cond, List, ◌≡◌, eqb, length, set}
-use Rattle.layout.specs.declared.refusals.Refusal.{Refusal}
 use Rattle.work.specs.declared.Work.{Work}
 use Rattle.work.specs.Entries.{left_of, store_result, store_image, answer_result, answer_buffer}
-use Rattle.work.specs.Recorded.{taking_bytes, entry_result, entry_buffer}
-use Rattle.layout.specs.Numbers.{told_number}
+use Rattle.work.specs.Recorded.{taking_bytes, entry_number, entry_result, entry_buffer}
 use Rattle.opening.specs.Openings.{status_number, boot_number, outcome_number}
 use Rattle.opening.specs.declared.Opened.{Opened}
 use Rattle.opening.specs.declared.Outcome.{Outcome}
@@ -21,7 +19,8 @@ of_work l a other = cond (eqb (length l) work_size) a other
 
 -- ---- openings: a refused one leaves all as it was
 
-abbrev pub if_ready : {T A : Type 0} → Result T Refusal → A → A → A
+-- of a status, whatever its refusals are
+abbrev pub if_ready : {T R A : Type 0} → Result T R → A → A → A
 if_ready (Ok t) a other = a
 if_ready (Err r) a other = other
 
@@ -32,7 +31,7 @@ pub record OpensAs (before after : List ℕ) (number : ℕ) (o : Opened ⊤) : T
   pub work_is : work_of after ≡ of_work before (if_ready o.status o.work (work_of before)) (work_of before)
 
 -- the outcome's number, where there is one
-abbrev pub outcome_after : Result Outcome Refusal → ℕ → ℕ
+abbrev pub outcome_after : {R : Type 0} → Result Outcome R → ℕ → ℕ
 outcome_after (Ok o) before = outcome_number o
 outcome_after (Err r) before = before
 
@@ -42,6 +41,23 @@ pub record BootsAs (before after : List ℕ) (outcome outcome' : ℕ) (number : 
   pub words_are : after ≡ of_work before (if_ready b.status (work_words b.work) before) before
   pub work_is : work_of after ≡ of_work before (if_ready b.status b.work (work_of before)) (work_of before)
   pub outcome_is : outcome' ≡ of_work before (outcome_after b.status outcome) outcome
+
+-- ---- the same of a work whose refusal is any number: it is told as it is
+
+abbrev pub number_in : {T : Type 0} → Result T ℕ → ℕ
+number_in (Ok t) = 0
+number_in (Err n) = n
+
+pub record WritesAs (before after : List ℕ) (number : ℕ) (w : Work) (s : Result ⊤ ℕ) : Type 0 where
+  pub number_is : number ≡ of_work before (number_in s) wrong_work
+  pub words_are : after ≡ of_work before (if_ready s (work_words w) before) before
+  pub work_is : work_of after ≡ of_work before (if_ready s w (work_of before)) (work_of before)
+
+pub record BootWritesAs (before after : List ℕ) (outcome outcome' : ℕ) (number : ℕ) (w : Work) (s : Result Outcome ℕ) : Type 0 where
+  pub number_is : number ≡ of_work before (number_in s) wrong_work
+  pub words_are : after ≡ of_work before (if_ready s (work_words w) before) before
+  pub work_is : work_of after ≡ of_work before (if_ready s w (work_of before)) (work_of before)
+  pub outcome_is : outcome' ≡ of_work before (outcome_after s outcome) outcome
 
 -- ---- the entries over a work
 
@@ -78,7 +94,7 @@ answer_buffer_in l buffer = of_work l (answer_buffer (work_of l) buffer) buffer
 
 -- the journal entry (document 02, §3), as the answer
 unfoldable pub entry_number_in : List ℕ → List ℕ → ℕ
-entry_number_in l buffer = of_work l (told_number (entry_result (work_of l) buffer)) wrong_work
+entry_number_in l buffer = of_work l (entry_number (work_of l) (length buffer)) wrong_work
 
 unfoldable pub entry_written : List ℕ → List ℕ → ℕ → ℕ
 entry_written l buffer n = cond (eqb (entry_number_in l buffer) 0) (taking_bytes (entry_result (work_of l) buffer)) n

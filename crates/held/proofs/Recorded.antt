@@ -14,7 +14,7 @@ use Rattle.work.specs.declared.lent.Lent.{Lent}
 use Rattle.work.specs.Parts.{recording, lent_work}
 use Rattle.work.proofs.Parts.{storing_of}
 use Rattle.work.specs.Recorded.{taking_bytes, entry_result, entry_buffer}
-use Rattle.work.proofs.Recorded.{recording_of, result_recording, buffer_recording}
+use Rattle.work.proofs.Recorded.{recording_of, entry_told, result_recording, buffer_recording}
 use Rattle.flat.specs.Flat.{work_size, work_of}
 use Rattle.flat.specs.Forms.{entry_number_in, entry_written, entry_buffer_in}
 
@@ -37,7 +37,7 @@ module _ (l : List ℕ) (x : Lent) (inputs : List ℕ) (p : lent_work x ≡ stor
 module _ (l buffer : List ℕ) (h : length l ≡ work_size) (x : Result ℕ Refusal) (r : x ≡ entry_result (work_of l) buffer) where
   pub number_in : told_number x ≡ entry_number_in l buffer
   unfolding entry_number_in
-  number_in = rw (eq-eqb (length l) work_size h) (ap told_number r)
+  number_in = rw (eq-eqb (length l) work_size h) (ap told_number r ∙ entry_told (work_of l) buffer)
 
   pub written_in : (n : ℕ) → cond (eqb (told_number x) 0) (taking_bytes x) n ≡ entry_written l buffer n
   unfolding entry_written

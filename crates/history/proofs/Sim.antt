@@ -22,11 +22,11 @@ use Rattle.work.specs.Entries.{runs_of, put_of}
 use Rattle.layout.specs.Numbers.{told_number}
 use Rattle.layout.specs.declared.refusals.Refusal.TheVariants.{ShortBuffer}
 use Rattle.work.specs.Entries.{Stored, well_shaped, finished, left_of, moved, answer_given, answer_number, answer_result, answer_buffer}
-use Rattle.work.specs.Recorded.{taking_bytes, entries_of, entry_number, entry_result, entry_buffer}
+use Rattle.work.specs.Recorded.{taking_bytes, entries_of, entry_given, entry_number, entry_result, entry_buffer}
 use Rattle.journal.specs.Entries.{Entry, journal_bytes}
 use Rattle.std.proofs.Common.{Ok, Err}
 use Rattle.layout.specs.Numbers.{refusal_number}
-use Rattle.journal_bytes.specs.Results.{taken_number, taken_result, taken_buffer}
+use Rattle.journal_bytes.specs.Results.{taken_given, taken_number, taken_buffer}
 use Rattle.opening.specs.Recorded.{entry_for}
 use Rattle.making.specs.Made.{work_with}
 use Rattle.table.specs.declared.Put.{Put}
@@ -114,14 +114,14 @@ module _ (w : Work) (j : Job) (k : ℕ) (c : Carried w j k) (h : k ≤ j.stores)
 
   -- the entry that is taken
   entry_early : k < j.stores → (b : List ℕ) → entry_taken (some (record { work = w; boot = true })) b ≡ recorded number.stores_left 0 b
-  unfolding entry_result entry_buffer entry_number finished
+  unfolding entry_given entry_result entry_buffer entry_number finished
   entry_early l b = rw (shaped, ne_eqb w.position (number_of w.kind) (λ e. omega (arith, c.number, c.position)))
 
   entry_late : k ≡ j.stores → (b : List ℕ)
       → entry_taken (some (record { work = w; boot = true })) b
       ≡ cond (ltb (length b) (length (journal_bytes (entry_for j.task)))) (recorded (refusal_number number.short_entry) 0 b)
       (recorded 0 (length (journal_bytes (entry_for j.task))) (journal_bytes (entry_for j.task) ++ drop (length (journal_bytes (entry_for j.task))) b))
-  unfolding entry_result entry_buffer entry_number finished taken_number taken_result taken_buffer
+  unfolding entry_given entry_result entry_buffer entry_number finished taken_given taken_number taken_buffer
   entry_late e b =
       rw (shaped, eq-eqb w.position (number_of w.kind) (omega (arith, c.number, c.position)))
       (ap (λ (es : List Entry). taken (journal_bytes es) (ltb (length b) (length (journal_bytes es)))) c.entries
@@ -129,10 +129,9 @@ module _ (w : Work) (j : Job) (k : ℕ) (c : Carried w j k) (h : k ≤ j.stores)
     where
       taken : List ℕ → Bool → Result
       taken l x =
-          let n = refusal_number number.short_entry in
-          let r = cond (eqb (cond x n 0) 0) (Ok (length l)) (Err number.short_entry) in
-          recorded (told_number r) (taking_bytes r)
-          (cond (eqb (cond x n 0) 0) (cond (eqb (cond (ltb (length b) (length l)) n 0) 0) (l ++ drop (length l) b) b) b)
+          let r = cond x (Err number.short_entry) (Ok (length l)) in
+          let r' = cond (ltb (length b) (length l)) (Err number.short_entry) (Ok (length l)) in
+          recorded (told_number r) (taking_bytes r) (cond (eqb (told_number r) 0) (cond (eqb (told_number r') 0) (l ++ drop (length l) b) b) b)
 
       by_test : (l : List ℕ) (x : Bool) → ltb (length b) (length l) ≡ x
           → taken l x ≡ cond x (recorded (refusal_number number.short_entry) 0 b) (recorded 0 (length l) (l ++ drop (length l) b))

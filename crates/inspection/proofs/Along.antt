@@ -11,6 +11,7 @@ use lib.Seq.{length-take-le}
 use borrow.Author.Tests.{le-leb, lt-leb}
 use Rattle.std.proofs.Common.{Some, None}
 use Rattle.layout.specs.declared.refusals.Refusal.{Refusal}
+use Rattle.layout.specs.Numbers.{refusal_number}
 use Rattle.layout.specs.Refusals.{cut_entry, uncounted}
 use Rattle.journal.specs.Read.{Read, refused, got}
 use Rattle.journal.specs.Entries.{Entry, entry_bytes, read_entry, longest}
@@ -52,7 +53,7 @@ Walks j f = (m : List ℕ) → walk count 0 fresh (j ++ m) ≡ f m
 -- a refusal that stays
 pub record Stopped (j : List ℕ) (r : Reader) : Type 0 where
   pub refusal : Refusal
-  pub kept : r.refusal ≡ Some refusal
+  pub kept : r.refusal ≡ Some (refusal_number refusal)
   pub walks : Walks j (λ m. stopped refusal r.offset)
 
 -- or entries that count, and the bytes of one that is not whole

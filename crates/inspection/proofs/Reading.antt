@@ -110,7 +110,7 @@ module _ (x : Stage) (b : ℕ) where
         ∙ sym (read_after R ∙ ap₂ after_count (sym e ∙ i) (sym a) ∙ after_other n image h)
 
 -- no refusal, by the test of it
-pub none_of : (o : code.Option Refusal) → is_some o ≡ false → o ≡ None
+pub none_of : (o : code.Option ℕ) → is_some o ≡ false → o ≡ None
 none_of None h = refl
 none_of (Some r) h = absurd (true≢false h)
 
@@ -125,7 +125,7 @@ reads_on x b n h o =
 
 -- ---- what is told without a refusal
 
-pub told_none : (o : code.Option Refusal) → o ≡ None → (at : ℕ) (v : List ℕ) → told_of o at v ≡ v
+pub told_none : (o : code.Option ℕ) → o ≡ None → (at : ℕ) (v : List ℕ) → told_of o at v ≡ v
 told_none o e at v = rw e refl
 
 pub told_going : (x : Stage) → image_bytes ≤ x.reader.seen → x.reader.refusal ≡ None

@@ -25,8 +25,8 @@ pub record Stage : Type 0 where
   pub saved : List ℕ
   pub scratch : List ℕ
 
--- `seen` bytes of the saved image; a refusal, if any; where the refused entry, or the one that waits, begins; its bytes so far
-abbrev pub reader_of : (seen : ℕ) (refusal : code.Option Refusal) (offset held : ℕ) → List ℕ → Reader
+-- `seen` bytes of the saved image; a refusal's number, if any; where the refused entry, or the one that waits, begins; its bytes so far
+abbrev pub reader_of : (seen : ℕ) (refusal : code.Option ℕ) (offset held : ℕ) → List ℕ → Reader
 reader_of seen refusal offset held waiting = record { seen = seen; refusal = refusal; offset = offset; held = held; waiting = waiting }
 
 abbrev pub stage_of : Reader → List ℕ → List ℕ → Stage
@@ -45,7 +45,7 @@ with_saved x b =
 
 -- an entry is refused
 abbrev pub refused_with : Stage → Refusal → Stage
-refused_with x n = let r = x.reader in stage_of (reader_of r.seen (code.Some n) r.offset r.held r.waiting) x.saved x.scratch
+refused_with x n = let r = x.reader in stage_of (reader_of r.seen (code.Some (refusal_number n)) r.offset r.held r.waiting) x.saved x.scratch
 
 -- an entry that is not yet whole waits
 abbrev pub waiting_with : Stage → ℕ → Stage
@@ -120,8 +120,8 @@ verdict_number Unlike = 2
 verdict_number Alike = 3
 
 -- a refusal's number and offset, or what is told without one
-abbrev pub told_of : code.Option Refusal → ℕ → List ℕ → List ℕ
-told_of (code.Some n) offset verdict = bytes4 (refusal_number n) ++ bytes8 offset
+abbrev pub told_of : code.Option ℕ → ℕ → List ℕ → List ℕ
+told_of (code.Some n) offset verdict = bytes4 n ++ bytes8 offset
 told_of code.None offset verdict = verdict
 
 unfoldable pub told : Stage → List ℕ

@@ -27,7 +27,7 @@ fn push_journal(reader: &mut Reader, scratch: &mut [u32], b: u8)
     }
     let held = reader.held;
     if LONGEST <= held {
-        reader.refusal = Some(Refusal::CutEntry);
+        reader.refusal = Some(u32::from(Refusal::CutEntry));
         return;
     }
     if JOURNAL_MAX - held <= reader.offset {
@@ -44,7 +44,7 @@ fn push_journal(reader: &mut Reader, scratch: &mut [u32], b: u8)
         Err(refusal) => match refusal {
             Refusal::CutEntry => reader.held = end,
             _ => {
-                reader.refusal = Some(refusal);
+                reader.refusal = Some(u32::from(refusal));
                 reader.waiting[held] = before;
             }
         },

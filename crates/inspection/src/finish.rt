@@ -1,6 +1,5 @@
 // What the program writes: a number, an offset, and unless refused a verdict and registers.
 ghost use Rattle.std.specs.Prelude.{◌+◌, ◌*◌, ◌≤◌, ◌≡◌, ◌∷◌, ◌++◌, length};
-ghost use Rattle.layout.specs.Numbers.{refusal_number};
 ghost use Rattle.layout.specs.Words.{bytes4, bytes8, bytes_in, part};
 ghost use Rattle.replaying.specs.Report.{compared_at};
 ghost use Rattle.inspection.specs.declared.reader.Reader.{Reader};
@@ -70,10 +69,10 @@ fn joined(front: [u8; HEAD_BYTES], back: &[u8]) -> Bytes<TOLD_MAX>
     }
 }
 
-fn refused(refusal: Refusal, offset: usize) -> Bytes<TOLD_MAX>
-    ensures { result ≡ told_in (bytes4 (refusal_number refusal) ++ bytes8 offset) }
+fn refused(number: u32, offset: usize) -> Bytes<TOLD_MAX>
+    ensures { result ≡ told_in (bytes4 number ++ bytes8 offset) }
 {
-    joined(head(u32::from(refusal), offset), &[])
+    joined(head(number, offset), &[])
 }
 
 // Whether the saved image's words from PCR2 on are those of the scratch image.
@@ -113,17 +112,18 @@ fn judged(saved: &[u8], scratch: &[u32]) -> Bytes<TOLD_MAX>
 }
 
 // What is written once the input has ended.
+#[tactic(auto, unfolding(crate::specs::Stages::told))]
 pub fn finish(reader: Reader, saved: &[u8], scratch: &[u32]) -> Bytes<TOLD_MAX>
     ensures { result ≡ told_in (told (stage_of reader saved.now scratch.now)) }
 {
     if reader.seen < IMAGE_BYTES {
-        return refused(Refusal::WrongImage, 0);
+        return refused(u32::from(Refusal::WrongImage), 0);
     }
-    if let Some(refusal) = reader.refusal {
-        return refused(refusal, reader.offset);
+    if let Some(number) = reader.refusal {
+        return refused(number, reader.offset);
     }
     if reader.held != 0 {
-        return refused(Refusal::CutEntry, reader.offset);
+        return refused(u32::from(Refusal::CutEntry), reader.offset);
     }
     judged(saved, scratch)
 }

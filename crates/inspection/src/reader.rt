@@ -5,20 +5,20 @@ ghost use Rattle.inspection.specs.Stages.{begun};
 
 use journal_bytes::entry::LONGEST;
 use layout::IMAGE_WORDS;
-use layout::refusals::Refusal;
 
 // The bytes of an image, and how many of the journal's are read.
 pub const IMAGE_BYTES: usize = 4 * IMAGE_WORDS;
 
 pub const JOURNAL_MAX: usize = 0x100000000;
 
-// `seen` counts the saved image's bytes. `refusal` is an entry's, which stays; `offset` is where the refused
+// `seen` counts the saved image's bytes. `refusal` is the number of an entry's, which stays; `offset` is where the refused
 // entry, or the one that waits, begins in the journal, and `held` bytes of it are in `waiting`.
+// (kept: a number and not a `Refusal`, as what is told is a number: any is kept and told as it is)
 // (kept: a buffer with its count, as there is no heap; the definitions take the reader as this record)
 #[derive(Clone, Copy)]
 pub struct Reader {
     pub seen: usize,
-    pub refusal: Option<Refusal>,
+    pub refusal: Option<u32>,
     pub offset: usize,
     pub held: usize,
     pub waiting: [u8; LONGEST],

@@ -8,7 +8,9 @@ use native.Mathlib.Numerals.{add-one}
 use lib.ListN.{length, take, set, length-set}
 use lib.Seq.{take-suc-set, length-take-le}
 use borrow.Author.Tests.{lt-ltb, le-ltb}
+use Rattle.layout.specs.Numbers.{told_number}
 use Rattle.journal.specs.Numbers.{groups, number_bytes}
+use Rattle.journal_bytes.specs.Results.{taken_given, taken_number, taken_result}
 
 -- ---- a number
 
@@ -70,3 +72,10 @@ joins x p q = p ∙ ap (λ (t : List ℕ). t ++ x) q
 
 pub draft_length : (d e : List ℕ) (n : ℕ) → take n d ≡ e → n ≤ length d → length e ≡ n
 draft_length d e n h k = rw (← h) (length-take-le n d k)
+
+-- ---- a taking
+
+-- what is answered has the number of a taking
+pub taken_told : (bytes buffer : List ℕ) → told_number (taken_result bytes buffer) ≡ taken_number bytes (length buffer)
+unfolding taken_given taken_number taken_result
+taken_told bytes buffer = refl

@@ -4,7 +4,7 @@ use Rattle.std.specs.Borrow.{Bor}
 use Rattle.layout.specs.Sizes.{handle_bytes}
 use Rattle.layout.specs.Words.{zeros}
 use Rattle.layout.specs.declared.refusals.Refusal.{Refusal}
-use Rattle.layout.specs.Numbers.{refusal_number}
+use Rattle.layout.specs.Numbers.{told_number}
 use Rattle.layout.specs.declared.refusals.Refusal.TheVariants.{ShortEntry}
 use Rattle.journal.specs.Read.{Read, refused, got, map_read}
 use Rattle.journal.specs.Numbers.{read_number}
@@ -101,12 +101,16 @@ filled (Err r) p = refused r
 
 -- ---- writing: bytes into a lent buffer, "then 23, writing nothing, if the buffer is too short"
 
--- the number of a taking into a buffer of n bytes; success is 0
+-- for a buffer of n bytes, how many bytes are written
+unfoldable pub taken_given : List ℕ → ℕ → Result ℕ Refusal
+taken_given bytes n = cond (ltb n (length bytes)) (Err ShortEntry) (Ok (length bytes))
+
+-- the same as a number; success is 0
 unfoldable pub taken_number : List ℕ → ℕ → ℕ
-taken_number bytes n = cond (ltb n (length bytes)) (refusal_number ShortEntry) 0
+taken_number bytes n = told_number (taken_given bytes n)
 
 unfoldable pub taken_result : List ℕ → List ℕ → Result ℕ Refusal
-taken_result bytes buffer = cond (eqb (taken_number bytes (length buffer)) 0) (Ok (length bytes)) (Err ShortEntry)
+taken_result bytes buffer = taken_given bytes (length buffer)
 
 -- the buffer afterwards: the bytes, and those past them stay; refused, every byte stays
 unfoldable pub taken_buffer : List ℕ → List ℕ → List ℕ

@@ -5,6 +5,9 @@ ghost use Rattle.journal_bytes.specs.Results.{read_view, number_read};
 
 use layout::refusals::Refusal;
 
+// A second to fourth byte that ends a number and adds nothing to it: the number has a shorter form.
+const NEEDLESS: u32 = 0;
+
 // The fifth group at the front, which is the last.
 #[tactic(auto, unfolding(journal::specs::Numbers::read_later))]
 fn fifth(s: &[u8]) -> Result<(u32, &[u8]), Refusal>
@@ -32,7 +35,7 @@ fn fourth(s: &[u8]) -> Result<(u32, &[u8]), Refusal>
         return Err(Refusal::CutEntry);
     };
     let b = u32::from(*first);
-    if b == 0 {
+    if b == NEEDLESS {
         return Err(Refusal::BadNumber);
     }
     if b < 128 {
@@ -52,7 +55,7 @@ fn third(s: &[u8]) -> Result<(u32, &[u8]), Refusal>
         return Err(Refusal::CutEntry);
     };
     let b = u32::from(*first);
-    if b == 0 {
+    if b == NEEDLESS {
         return Err(Refusal::BadNumber);
     }
     if b < 128 {
@@ -72,7 +75,7 @@ fn second(s: &[u8]) -> Result<(u32, &[u8]), Refusal>
         return Err(Refusal::CutEntry);
     };
     let b = u32::from(*first);
-    if b == 0 {
+    if b == NEEDLESS {
         return Err(Refusal::BadNumber);
     }
     if b < 128 {

@@ -1,5 +1,5 @@
 // One act of demand 3's machine, made through the entries on a lent image, the work in hand and a
-// lent buffer. What runs a list by `make` in a loop runs what the theorem of demand 3 is about.
+// lent buffer. What runs a list by `perform` in a loop runs what the theorem of demand 3 is about.
 #![tactic(auto)]
 
 mod calls;

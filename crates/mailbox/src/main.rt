@@ -23,11 +23,12 @@ enum ExchangeError {
     Unwritten,
 }
 
+// A message is its whole line in one write, so that it stays in one piece on a shared stream.
 impl fmt::Display for ExchangeError {
     fn fmt<W: fmt::Write>(&self, f: &mut fmt::Formatter<W>) -> fmt::Result {
         f.write_str(match self {
-            ExchangeError::Unread => "the input cannot be read: no answer",
-            ExchangeError::Unwritten => "the answer cannot be written",
+            ExchangeError::Unread => "mailbox: the input cannot be read: no answer\n",
+            ExchangeError::Unwritten => "mailbox: the answer cannot be written\n",
         })
     }
 }
@@ -71,6 +72,6 @@ fn exchange<R: Read, W: Write>(input: &mut R, out: &mut W) -> Result<(), Exchang
 // A message that cannot be written either is lost.
 fn main(rt: HostRuntime) {
     if let Err(error) = exchange(&mut rt.stdin(), &mut rt.stdout()) {
-        let _ = writeln!(rt.stderr(), "mailbox: {error}");
+        let _ = write!(rt.stderr(), "{error}");
     }
 }

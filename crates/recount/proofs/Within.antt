@@ -15,7 +15,7 @@ use Rattle.journal.specs.Entries.{Entry, kind_byte, form_of, fields_of, values_o
 use Rattle.journal.specs.Numbers.{groups, number_bytes}
 use Rattle.journal.specs.Fields.{fields_bytes}
 use Rattle.journal.specs.Entries as entry
-use Rattle.journal_bytes.specs.Results.{parts_with, handle_part, fresh_part, entry_in, taken_number, taken_result, taken_buffer}
+use Rattle.journal_bytes.specs.Results.{parts_with, handle_part, fresh_part, entry_in, taken_given, taken_number, taken_result, taken_buffer}
 use Rattle.journal_bytes.specs.declared.entry.EntryParts.{EntryParts}
 use Rattle.journal_bytes.specs.declared.entry.EntryKind.{EntryKind}
 use Rattle.journal_bytes.specs.declared.entry.EntryKind.TheVariants.{ColdBoot, Update, Disabling, Stash, Extension, Derive, Extend, Rotate, Destroy}
@@ -60,7 +60,7 @@ fronts k m tail rest v h =
 
 -- the draft has room for any entry
 pub draft_fits : (e : Entry) → length (entry_bytes e) ≤ longest → taken_result (entry_bytes e) (replicate 104 0) ≡ Ok (length (entry_bytes e))
-unfolding taken_result taken_number
+unfolding taken_given taken_result
 draft_fits e short = rw (le-ltb 104 (length (entry_bytes e)) short) refl
 
 module _ (tail : ℕ) (e : Entry) (short : length (entry_bytes e) ≤ longest) (more : tail < length (entry_bytes e)) (n : ℕ) (d : List ℕ)
@@ -72,7 +72,7 @@ module _ (tail : ℕ) (e : Entry) (short : length (entry_bytes e) ≤ longest) (
   all_written = let q : Ok n ≡ Ok (length (entry_bytes e)) = taken ∙ draft_fits e short in cc
 
   draft_written : d ≡ entry_bytes e ++ rest
-  unfolding taken_buffer taken_number rest
+  unfolding taken_given taken_buffer taken_number rest
   draft_written = drafted ∙ rw (le-ltb 104 (length (entry_bytes e)) short)
 
   draft_long : length d ≡ 104

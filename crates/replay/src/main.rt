@@ -32,11 +32,12 @@ enum ReplayError {
     Unwritten,
 }
 
+// A message is its whole line in one write, so that it stays in one piece on a shared stream.
 impl fmt::Display for ReplayError {
     fn fmt<W: fmt::Write>(&self, f: &mut fmt::Formatter<W>) -> fmt::Result {
         f.write_str(match self {
-            ReplayError::Unread => "the input cannot be read: no verdict",
-            ReplayError::Unwritten => "the verdict cannot be written",
+            ReplayError::Unread => "replay: the input cannot be read: no verdict\n",
+            ReplayError::Unwritten => "replay: the verdict cannot be written\n",
         })
     }
 }
@@ -88,6 +89,6 @@ fn replay<R: Read, W: Write>(input: &mut R, out: &mut W) -> Result<(), ReplayErr
 // A message that cannot be written either is lost.
 fn main(rt: HostRuntime) {
     if let Err(error) = replay(&mut rt.stdin(), &mut rt.stdout()) {
-        let _ = writeln!(rt.stderr(), "replay: {error}");
+        let _ = write!(rt.stderr(), "{error}");
     }
 }

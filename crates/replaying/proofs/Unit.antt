@@ -17,10 +17,10 @@ use Rattle.layout.specs.declared.refusals.Refusal.TheVariants as refusal
 use Rattle.layout.proofs.Tab.{length_zeros}
 use Rattle.journal.specs.Entries.{Entry, entry_bytes, journal_bytes, longest}
 use Rattle.journal.specs.Entries as entry
-use Rattle.journal_bytes.specs.Results.{taken_number, taken_result, taken_buffer}
+use Rattle.journal_bytes.specs.Results.{taken_given, taken_number, taken_buffer}
 use Rattle.work.specs.declared.Work.{Work}
 use Rattle.work.specs.Entries.{finished}
-use Rattle.work.specs.Recorded.{entries_of, entry_number, entry_result, entry_buffer}
+use Rattle.work.specs.Recorded.{entries_of, entry_given, entry_number, entry_result, entry_buffer}
 use Rattle.making.specs.Run.{all_stores}
 use Rattle.making.proofs.After.{all_kept, all_finished}
 use Rattle.opening.specs.Orders.{NodeCommand, derive, extend, rotate, destroy, malformed}
@@ -222,7 +222,7 @@ cold_opened before x e = go (eqb (length before) image_words) refl (inputs_ok x)
 
 -- a finished work's entry
 taken_finished : (w : Work) → finished w ≡ true → length (journal_bytes (entries_of w)) ≤ longest → taken_from w ≡ journal_bytes (entries_of w)
-unfolding entry_result entry_buffer entry_number taken_number taken_result taken_buffer
+unfolding entry_given entry_result entry_buffer entry_number taken_given taken_number taken_buffer
 taken_finished w f h =
     rw (f, le-ltb (length (zeros longest)) (length (journal_bytes (entries_of w))) (omega (arith, length_zeros longest)))
     (take-append_seam (journal_bytes (entries_of w)) (drop (length (journal_bytes (entries_of w))) (zeros longest)))

@@ -3,11 +3,12 @@
 
 ghost use Rattle.std.specs.Prelude.{◌≡◌, ◌+◌, ◌≤◌, ◌<◌, cond, length, OnOk, OnErr, IfErr};
 ghost use Rattle.sha384.specs.declared.errors.DigestError.TheVariants.{Damaged};
+ghost use Rattle.sha384.specs.Errors.{numbered};
 ghost use Rattle.running.specs.Running.{longest_total, begun, agrees, admitted, feed_result, fed_of, finish_result};
 
 use sha_block::blocks::absorb;
 use sha384::constants::{K, initial};
-use sha384::digest::{LONGEST, conclude_digest};
+use sha384::digest::{DigestResult, LONGEST, conclude_digest};
 use sha384::errors::DigestError;
 
 // The largest total, in bytes.
@@ -122,5 +123,12 @@ impl Running {
     {
         let total = self.agreed_total()?;
         Ok(conclude_digest(self.hash, self.buffer, total))
+    }
+
+    // The same as a number and 48 bytes: a finish that is refused gets 27 and zeros.
+    pub fn finish_numbered(&self) -> DigestResult
+        ensures { result ≡ numbered (finish_result self.now) }
+    {
+        DigestResult::from(self.finish())
     }
 }

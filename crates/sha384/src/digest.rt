@@ -2,6 +2,7 @@
 ghost use Rattle.std.specs.Prelude.{◌≡◌, ◌≤◌, ◌++◌, length};
 ghost use Rattle.sha_block.specs.Blocks.{hash_value};
 ghost use Rattle.sha384.specs.Sha384.{first_six, sha384};
+ghost use Rattle.sha384.specs.Errors.{numbered};
 ghost use Rattle.sha384.specs.Entries.{longest, digest_of, extended, concluded};
 
 use crate::constants::{K, initial};
@@ -12,6 +13,27 @@ use slices::strings::joined;
 
 // The longest message, in bytes.
 pub const LONGEST: usize = 65535;
+
+// A digest entry's answer as a number and 48 bytes: 0 and the digest; or a refusal's number and zeros.
+#[derive(Clone, Copy)]
+pub struct DigestResult {
+    pub number: u32,
+    pub bytes: [u8; 48],
+}
+
+impl From<Result<[u8; 48], DigestError>> for DigestResult {
+    ghost from_gives = { λ r d. d ≡ numbered r };
+
+    fn from(answer: Result<[u8; 48], DigestError>) -> DigestResult {
+        match answer {
+            Ok(bytes) => DigestResult { number: 0, bytes },
+            Err(error) => DigestResult {
+                number: u32::from(error),
+                bytes: [0u8; 48],
+            },
+        }
+    }
+}
 
 // The bytes of the first six words.
 fn first_six(h: [u64; 8]) -> [u8; 48]
@@ -44,6 +66,13 @@ pub fn digest(message: &[u8]) -> Result<[u8; 48], DigestError>
         return Err(DigestError::TooLong);
     }
     Ok(hash(message))
+}
+
+// The same as a number and 48 bytes: a message that is too long gets 10 and zeros.
+pub fn digest_numbered(message: &[u8]) -> DigestResult
+    ensures { result ≡ numbered (digest_of message.now) }
+{
+    DigestResult::from(digest(message))
 }
 
 // The digest of a message of `total` bytes whose whole blocks have made the hash value `h`; the

@@ -51,13 +51,15 @@ enum SumError {
     Unwritten,
 }
 
+// A message is its whole line in one write, so that it stays in one piece on a shared stream.
 impl fmt::Display for SumError {
     fn fmt<W: fmt::Write>(&self, f: &mut fmt::Formatter<W>) -> fmt::Result {
-        match self {
-            SumError::Unread => write!(f, "the input cannot be read: no digest"),
-            SumError::TooLong => write!(f, "the input is longer than 4294967295 bytes: no digest"),
-            SumError::Unwritten => write!(f, "the digest cannot be written"),
-        }
+        f.write_str(match self {
+            SumError::Unread => "sha384sum: the input cannot be read: no digest\n",
+            SumError::TooLong =>
+                "sha384sum: the input is longer than 4294967295 bytes: no digest\n",
+            SumError::Unwritten => "sha384sum: the digest cannot be written\n",
+        })
     }
 }
 
@@ -128,6 +130,6 @@ fn sum<R: Read, W: Write>(input: &mut R, out: &mut W) -> Result<(), SumError>
 // A message that cannot be written either is lost.
 fn main(rt: HostRuntime) {
     if let Err(error) = sum(&mut rt.stdin(), &mut rt.stdout()) {
-        let _ = writeln!(rt.stderr(), "sha384sum: {error}");
+        let _ = write!(rt.stderr(), "{error}");
     }
 }

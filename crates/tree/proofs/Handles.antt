@@ -1,5 +1,6 @@
 -- Handles: their words in an image, and when two are the same. Assumes nothing.
-use mathlib.Core.Path.{◌≡◌, refl, sym, ap, ◌∙◌}
+use native.Mathlib.Nat.{zero-add}
+use mathlib.Core.Path.{◌≡◌, refl, sym, ap, subst, ◌∙◌}
 use Prim.Native.Nat.{ℕ, zero, suc, ◌+◌, ◌<◌}
 use native.Mathlib.Omega.{arith}
 use mathlib.Core.Bool.{Bool, true, false, ◌&&◌}
@@ -8,9 +9,12 @@ use lib.Dec.{eqb}
 use lib.ListN.{get_or, length}
 use lib.Pointwise.{pointwise}
 use borrow.Author.Tests.{eq-eqb, eqb-true}
+use Rattle.std.specs.Bool.{MatchBool}
+use Rattle.std.specs.List.{AllWithin, HoldsAt, range_with_len}
+use Rattle.std.proofs.lemmas.List.FromFn.{length-range_with_len, get_or-range_with_len}
 use Rattle.layout.specs.Sizes.{node_at, handle_at, handle_words}
 use Rattle.layout.specs.Below.{all_below}
-use Rattle.layout.proofs.Bounded.{all_at, all_below_law}
+use Rattle.layout.proofs.Bounded.{all_at, all_below_law, all_fails}
 use Rattle.layout.proofs.Packing.{get_d_part}
 use Rattle.tree.specs.Tree.{same_handle}
 use Rattle.tree.specs.Nodes.{word, tree_in}
@@ -78,3 +82,15 @@ words_equal (x ∷ a) (y ∷ b) e =
 pub same_by_eq : (a b : List ℕ) → length a ≡ handle_words → length b ≡ handle_words → pointwise eqb a b ≡ same_handle a b
 unfolding same_handle
 same_by_eq a b l m = words_equal a b (l ∙ sym m) ∙ ap (λ (n : ℕ). all_below n (λ j. eqb (get_or a j 0) (get_or b j 0))) l
+
+-- ---- `all` of a range from 0
+
+pub all_range : (r : Bool) (p : ℕ → Bool) (n : ℕ)
+    → MatchBool r (AllWithin (λ k. p k ≡ true) (range_with_len 0 n) 0 (length (range_with_len 0 n)))
+    ((k : ℕ) × (k < length (range_with_len 0 n)) × HoldsAt (λ k. p k ≡ false) (range_with_len 0 n) k)
+    → r ≡ all_below n p
+all_range true p n h =
+    sym (all_below_law p n (λ k i. subst (λ (j : ℕ). p j ≡ true) (get_or-range_with_len 0 n k 0 i ∙ zero-add k) (h k 0 (omega arith) (omega (arith, i, length-range_with_len 0 n)))))
+all_range false p n h =
+    let i : h.0 < n = omega (arith, h.1, length-range_with_len 0 n) in
+    sym (all_fails p h.0 n (subst (λ (j : ℕ). p j ≡ false) (get_or-range_with_len 0 n h.0 0 i ∙ zero-add h.0) (h.2 0)) i)

@@ -10,16 +10,16 @@ use lib.ListN.{length}
 use Rattle.std.proofs.Common.{Result, Ok, Err}
 use Rattle.layout.specs.declared.refusals.Refusal.{Refusal}
 use Rattle.layout.specs.declared.refusals.Refusal.TheVariants.{WrongImage, StoresLeft}
-use Rattle.layout.specs.Numbers.{refusal_number}
+use Rattle.layout.specs.Numbers.{refusal_number, told_number}
 use Rattle.table.specs.Table.{number_of, index_ok}
 use Rattle.table.specs.declared.Kind.{Kind}
 use Rattle.table.specs.declared.Kind.TheVariants.{Nothing, Disabling, Stash, Update, ColdBoot, Extension, Derive, Replace, Extend, Rotate, Destroy}
 use Rattle.table.proofs.ByKind.{destroy_count, number_destroy}
 use Rattle.journal.specs.Entries.{Entry, entry_bytes}
-use Rattle.journal_bytes.specs.Results.{taken_number, taken_result, taken_buffer}
+use Rattle.journal_bytes.specs.Results.{taken_given, taken_number, taken_result, taken_buffer}
 use Rattle.work.specs.Entries.{well_shaped, finished}
 use Rattle.work.specs.Parts.{standing, recording}
-use Rattle.work.specs.Recorded.{entries_for, entries_of, recorded_bytes, entry_number, entry_result, entry_buffer}
+use Rattle.work.specs.Recorded.{entries_for, entries_of, recorded_bytes, entry_given, entry_number, entry_result, entry_buffer}
 use Rattle.work.specs.declared.Work.{Work}
 
 -- a destroy has its two marks to store
@@ -46,6 +46,11 @@ pub some_number : (r : Refusal) → refusal_number r ≡ 0 → ⊥
 some_number WrongImage e = omega arith
 some_number _ e = omega arith
 
+-- what is answered has the entry's number
+pub entry_told : (w : Work) (buffer : List ℕ) → told_number (entry_result w buffer) ≡ entry_number w (length buffer)
+unfolding entry_given entry_number entry_result
+entry_told w buffer = refl
+
 -- ---- one answer for each test
 
 abbrev takes : Result ℕ Refusal → List ℕ → Work → List ℕ → Type 0
@@ -53,13 +58,13 @@ takes r after w buffer = (r ≡ entry_result w buffer) × (after ≡ entry_buffe
 
 module _ (w : Work) (buffer : List ℕ) where
   pub entry_early : finished w ≡ false → takes (Err StoresLeft) buffer w buffer
-  unfolding entry_result entry_buffer entry_number
+  unfolding entry_given entry_result entry_buffer entry_number
   entry_early h = rw h (refl, refl)
 
   module _ (done : finished w ≡ true) where
     -- what is taken are the entry's bytes
     taken : (taken_result (recorded_bytes w) buffer ≡ entry_result w buffer) × (taken_buffer (recorded_bytes w) buffer ≡ entry_buffer w buffer)
-    unfolding entry_result entry_buffer entry_number taken_result taken_buffer
+    unfolding entry_given entry_result entry_buffer entry_number taken_given taken_number taken_result taken_buffer
     taken = rw done (refl, twice (eqb (taken_number (recorded_bytes w) (length buffer)) 0) _ buffer)
       where
         twice : (t : Bool) (x y : List ℕ) → cond t x y ≡ cond t (cond t x y) y
@@ -67,7 +72,7 @@ module _ (w : Work) (buffer : List ℕ) where
         twice false x y = refl
 
     pub entry_none : entries_of w ≡ [] → takes (Ok 0) buffer w buffer
-    unfolding taken_result taken_buffer taken_number
+    unfolding taken_given taken_result taken_buffer taken_number
     entry_none e =
         let none : (taken_result [] buffer ≡ Ok 0) × (taken_buffer [] buffer ≡ buffer) = rw (le-ltb (length buffer) 0 (omega arith)) (refl, refl) in
         (sym none.0 ∙ rw e at taken.0, sym none.1 ∙ rw e at taken.1)
@@ -87,9 +92,9 @@ abbrev pub recording_of : Work → Work
 recording_of w = recording w.kind w.position w.answer_len w.node w.inputs
 
 pub result_recording : (w : Work) (buffer : List ℕ) → entry_result (recording_of w) buffer ≡ entry_result w buffer
-unfolding entry_result entry_number finished well_shaped entries_of
+unfolding entry_given entry_result finished well_shaped entries_of
 result_recording w buffer = refl
 
 pub buffer_recording : (w : Work) (buffer : List ℕ) → entry_buffer (recording_of w) buffer ≡ entry_buffer w buffer
-unfolding entry_buffer entry_number finished well_shaped entries_of
+unfolding entry_given entry_buffer entry_number finished well_shaped entries_of
 buffer_recording w buffer = refl

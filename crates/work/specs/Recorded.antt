@@ -3,11 +3,11 @@ use Rattle.std.specs.Prelude.{ℕ, cond, not, List, [], ◌∷◌, eqb, length, 
 use Rattle.layout.specs.Sizes.{type_at, svn_at, locality_at}
 use Rattle.layout.specs.declared.refusals.Refusal.{Refusal}
 use Rattle.layout.specs.declared.refusals.Refusal.TheVariants.{StoresLeft}
-use Rattle.layout.specs.Numbers.{refusal_number}
+use Rattle.layout.specs.Numbers.{told_number}
 use Rattle.table.specs.declared.Kind.{Kind}
 use Rattle.table.specs.declared.Kind.TheVariants.{Nothing, Disabling, Stash, Update, ColdBoot, Extension, Derive, Replace, Extend, Rotate, Destroy}
 use Rattle.journal.specs.Entries.{Entry, cold_boot, update, disabling, stash, extension, derive, extend, rotate, destroy, journal_bytes}
-use Rattle.journal_bytes.specs.Results.{handle_part, fresh_part, taken_number, taken_result, taken_buffer}
+use Rattle.journal_bytes.specs.Results.{handle_part, fresh_part, taken_given, taken_buffer}
 use Rattle.work.specs.Entries.{finished}
 use Rattle.work.specs.declared.Work.{Work}
 
@@ -57,12 +57,16 @@ recorded_bytes w = journal_bytes (entries_of w)
 
 -- ---- its taking
 
--- "as its answer is: 7 first, then 23 .. if the buffer is too short", for a buffer of n bytes; success is 0
+-- "as its answer is: 7 first, then 23 .. if the buffer is too short", for a buffer of n bytes; else how many bytes are written
+unfoldable pub entry_given : Work → ℕ → Result ℕ Refusal
+entry_given w n = cond (not (finished w)) (Err StoresLeft) (taken_given (recorded_bytes w) n)
+
+-- the same as a number; success is 0
 unfoldable pub entry_number : Work → ℕ → ℕ
-entry_number w n = cond (not (finished w)) (refusal_number StoresLeft) (taken_number (recorded_bytes w) n)
+entry_number w n = told_number (entry_given w n)
 
 unfoldable pub entry_result : Work → List ℕ → Result ℕ Refusal
-entry_result w buffer = cond (not (finished w)) (Err StoresLeft) (taken_result (recorded_bytes w) buffer)
+entry_result w buffer = entry_given w (length buffer)
 
 -- a taking's number, and how many bytes it took
 abbrev pub taking_bytes : Result ℕ Refusal → ℕ

@@ -2,23 +2,34 @@
 // refuses with 1 whatever the work is: ready, finished or damaged.
 #![tactic(auto)]
 
+ghost use Rattle.std.specs.Prelude.{◌≡◌};
+ghost use Rattle.layout.specs.Numbers.{told_number};
+
 use boot::cold::open_cold_boot;
 use layout::IMAGE_WORDS;
+use layout::refusals::Refusal;
 use std::io::Write;
 use work::Work;
 
 // One word more than an image has.
 const LONGEST: usize = IMAGE_WORDS + 1;
 
+// The number of a store: 0 where it is made.
+fn number_of(stored: Result<Work, Refusal>) -> u32
+    ensures { result ≡ told_number stored }
+{
+    match stored {
+        Ok(_) => 0,
+        Err(refusal) => u32::from(refusal),
+    }
+}
+
 // Prints the number of a store on an image of that many words, at most the longest. One that cannot be
 // written is lost.
 fn print_store<W: Write>(out: &mut W, work: Work, words: usize) {
     let mut space = [0u32; LONGEST];
     if let Some(image) = space.get_mut(..words) {
-        let number = match work.store(image) {
-            Ok(_) => 0,
-            Err(refusal) => u32::from(refusal),
-        };
+        let number = number_of(work.store(image));
         let _ = writeln!(out, "{number}");
     }
 }

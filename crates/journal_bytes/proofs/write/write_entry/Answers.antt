@@ -4,12 +4,12 @@ use mathlib.Core.Path.{◌≡◌, refl, sym, ◌∙◌}
 use lib.ListN.{length}
 use borrow.Author.Tests.{lt-ltb, le-ltb}
 use Rattle.journal.specs.Entries.{entry_bytes}
-use Rattle.journal_bytes.specs.Results.{entry_in, taken_number, taken_result, taken_buffer}
+use Rattle.journal_bytes.specs.Results.{entry_in, taken_given, taken_number, taken_result, taken_buffer}
 use Rattle.journal_bytes.proofs.Writing.{draft_length}
 use Rattle.journal_bytes.proofs.write.write_entry.Goals as goal
 
 pub returns-then-buffer-n : goal.returns-then-buffer-n
-unfolding taken_number taken_result taken_buffer
+unfolding taken_given taken_number taken_result taken_buffer
 returns-then-buffer-n c =
     let e = entry_bytes (entry_in c.args.entry) in
     let p = c.put-n in
@@ -17,7 +17,7 @@ returns-then-buffer-n c =
     rw (lt-ltb (length c.args.buffer.now) (length e) (omega arith)) (record { value = refl; buffer_after = refl })
 
 pub returns : goal.returns
-unfolding taken_number taken_result taken_buffer
+unfolding taken_given taken_number taken_result taken_buffer
 returns c =
     let e = entry_bytes (entry_in c.args.entry) in
     let b = c.args.buffer.now in
